@@ -1,0 +1,20 @@
+-- `Atom::checked` meets its contract: its two tests are those of `inside`, by which `atomOf` picks its answer.
+use borrow.Author.Tests.{le-leb, lt-leb}
+use Rattle.rules.specs.Number.{atomOf}
+use Rattle.rules.proofs.Atom.checked.Statement.{statement}
+use Rattle.rules.proofs.Atom.checked.Tie as tie
+
+returns : tie.Need-returns
+unfolding atomOf
+returns c = simp (lt-leb _ _ (c .if1 .taken))
+
+returns-2 : tie.Need-returns-2
+unfolding atomOf
+returns-2 c = simp (le-leb _ _ (c .before .if1 .left), lt-leb _ _ (c .if2 .taken))
+
+returns-3 : tie.Need-returns-3
+unfolding atomOf
+returns-3 c = simp (le-leb _ _ (c .before .if1 .left), le-leb _ _ (c .if2 .left))
+
+pub checked-spec : {M : Type 1} → statement M
+checked-spec = tie.close (tie.spec returns returns-2 returns-3)
