@@ -4,3 +4,9 @@ pub mod Sum
 pub mod Value
 pub mod Maps
 pub mod Forced
+pub mod Total
+pub mod Members
+pub mod Least
+pub mod Models
+pub mod Shuffle
+pub mod First

@@ -4,8 +4,8 @@ use mathlib.Core.Path.{_≡_, refl, sym, subst, ap, _∙_}
 use mathlib.Core.Logic.{_⊎_, inl, inr, ⊎-elim}
 use mathlib.Core.Bool.{Bool, true, false, not, _&&_, _||_}
 use mathlib.Core.List.{List, [], _∷_, List·Memᴰ, List·Memᴰ·head, List·Memᴰ·tail, List·Memᴰ·cases-cons, List·Memᴰ·not-nil}
-use native.Mathlib.Omega.{arith}
-use lib.Dec.{T, eqb, leb, eqb→eq, eqb-refl, not-T, T-not, leb→le, le→leb}
+use native.Mathlib.Nat.{eq-or-lt-of-le}
+use lib.Dec.{T, eqb, ltb, eqb→eq, eqb-refl, not-T, T-not, ltb→lt, nltb→le}
 use Rattle.rules.specs.Sum.{has}
 
 pub eq-T : {a b : ℕ} → a ≡ b → T (eqb a b)
@@ -85,3 +85,10 @@ pub mem-has : {a : ℕ} {xs : List ℕ} → List·Memᴰ a xs → T (has a xs)
 unfolding has
 mem-has {a} (List·Memᴰ·head {x = x} {xs = xs} e) = or-left (eqb a x) (has a xs) (eq-T e)
 mem-has {a} (List·Memᴰ·tail {x = x} {xs = xs} m) = or-right (eqb a x) (has a xs) (mem-has m)
+
+pub order : (x y : ℕ) → (x < y) ⊎ ((x ≡ y) ⊎ (y < x))
+order x y = step (decided (ltb x y))
+  where
+    step : T (ltb x y) ⊎ T (not (ltb x y)) → (x < y) ⊎ ((x ≡ y) ⊎ (y < x))
+    step (inl t) = inl (ltb→lt x y t)
+    step (inr t) = inr (⊎-elim (λ (e : y ≡ x). inl (sym e)) (λ (l : y < x). inr l) (eq-or-lt-of-le (nltb→le x y t)))

@@ -10,7 +10,7 @@
 use Prim.Native.Nat.{ℕ, _+_, _≤_, _<_}
 use mathlib.Core.Path.{_≡_}
 use mathlib.Core.Bool.{Bool, true, false, not, _&&_}
-use mathlib.Core.List.{List, _++_, map, List·Memᴰ}
+use mathlib.Core.List.{List, [], _∷_, _++_, map, List·Memᴰ}
 use lib.Dec.{T, leb}
 use Rattle.rules.specs.Sum.{tally, has}
 use Rattle.rules.specs.Rule.{Rule, Weighted, Sheet, Within, body, chooses}
@@ -72,3 +72,15 @@ computed sh = map inn (sh .computeIn) ++ map out (sh .computeOut)
 -- "the smallest consistent set that holds pins and compute lists and is closed under the four forcing rules"
 abbrev pub Pinned : Sheet → List Literal → Map → Type 0
 Pinned sh ps M = Holding (computed sh ++ ps) M
+
+-- pins one after the other: each map is the smallest closed one that holds the map before it and the next pin
+pub data Pinning (P : List Rule) (n : ℕ) : Map → List Literal → Map → Type 0 where
+  none : {M : Map} → Pinning P n M [] M
+  next :
+      {M M₁ M′ : Map} {p : Literal} {ps : List Literal} → Least P n (λ X. (M ⊑ X) × Holding (p ∷ []) X) M₁
+      → Pinning P n M₁ ps M′ → Pinning P n M (p ∷ ps) M′
+
+-- two lists with the same elements, in any order and with any repeats
+pub record SameSet (ps ps′ : List Literal) : Type 0 where
+  pub onto : (p : Literal) → List·Memᴰ p ps → List·Memᴰ p ps′
+  pub back : (p : Literal) → List·Memᴰ p ps′ → List·Memᴰ p ps

@@ -4,4 +4,5 @@ pub mod Rule
 pub mod Stable
 pub mod Map
 pub mod Forcing
+pub mod Search
 pub mod Number

@@ -1,8 +1,9 @@
 -- "A rule is one of four kinds, each with its own head part." "Each rule has a need and each body literal a weight.
 -- Basic and choice: weight 1, need the body's length. Constraint: weight 1, need the bound. Weight rule: as written."
 use Prim.Native.Nat.{ℕ, _+_, _≤_}
+use mathlib.Core.Path.{_≡_}
 use mathlib.Core.Bool.{Bool, true, false}
-use mathlib.Core.List.{List, [], _∷_, map, List·Memᴰ}
+use mathlib.Core.List.{List, [], _∷_, map, List·Memᴰ, List·Permᴰ}
 use lib.ListN.{length}
 use lib.Dec.{T}
 use Rattle.rules.specs.Sum.{has}
@@ -70,3 +71,16 @@ pub record Within (n a : ℕ) : Type 0 where
 pub record Fits (n : ℕ) (P : List Rule) : Type 0 where
   pub head : (r : Rule) → List·Memᴰ r P → (a : ℕ) → T (has a (r .heads)) → Within n a
   pub literal : (r : Rule) → List·Memᴰ r P → (s : Bool) (l : Weighted) → List·Memᴰ l (body r s) → Within n (l .atom)
+
+-- every atom that the sheet names is one of its n
+pub record Numbered (sh : Sheet) : Type 0 where
+  pub rules : Fits (sh .atoms) (sh .rules)
+  pub computeIn : (a : ℕ) → T (has a (sh .computeIn)) → Within (sh .atoms) a
+  pub computeOut : (a : ℕ) → T (has a (sh .computeOut)) → Within (sh .atoms) a
+
+-- two sheets that differ only in the order of their rules
+pub record Shuffled (sh sh′ : Sheet) : Type 0 where
+  pub atoms : sh .atoms ≡ sh′ .atoms
+  pub rules : List·Permᴰ (sh .rules) (sh′ .rules)
+  pub computeIn : sh .computeIn ≡ sh′ .computeIn
+  pub computeOut : sh .computeOut ≡ sh′ .computeOut

@@ -1,0 +1,38 @@
+-- Membership through map, ++ and a change of order.
+use mathlib.Core.Path.{_≡_, refl, sym, _∙_, ap}
+use mathlib.Core.Logic.{_⊎_, inl, inr, ⊎-elim}
+use mathlib.Core.List.{List, [], _∷_, map, List·Memᴰ, List·Memᴰ·head, List·Memᴰ·tail, List·Memᴰ·cases-cons, List·Memᴰ·not-nil, List·Permᴰ, List·Permᴰ·nil, List·Permᴰ·cons, List·Permᴰ·swap, List·Permᴰ·trans}
+
+module _ {ℓ} {A B : Type ℓ} (f : A → B) where
+  pub map-mem : (xs : List A) {y : B} → List·Memᴰ y (map f xs) → (x : A) × List·Memᴰ x xs × (y ≡ f x)
+  map-mem [] m = absurd (List·Memᴰ·not-nil m)
+  map-mem (x ∷ xs) {y} m = step (List·Memᴰ·cases-cons m) (map-mem xs {y = y})
+    where
+      step :
+          (y ≡ f x) ⊎ List·Memᴰ y (map f xs) → (List·Memᴰ y (map f xs) → (z : A) × List·Memᴰ z xs × (y ≡ f z))
+          → (z : A) × List·Memᴰ z (x ∷ xs) × (y ≡ f z)
+      step (inl e) rest = (x, List·Memᴰ·head refl, e)
+      step (inr k) rest = let t = rest k in (t .0, List·Memᴰ·tail (t .1), t .2)
+
+  pub mem-map : {x : A} {xs : List A} → List·Memᴰ x xs → List·Memᴰ (f x) (map f xs)
+  mem-map (List·Memᴰ·head e) = List·Memᴰ·head (ap f e)
+  mem-map (List·Memᴰ·tail m) = List·Memᴰ·tail (mem-map m)
+
+module _ {ℓ} {A : Type ℓ} where
+  pub perm-mem : {x : A} {xs ys : List A} → List·Permᴰ xs ys → List·Memᴰ x xs → List·Memᴰ x ys
+  perm-mem List·Permᴰ·nil m = m
+  perm-mem {x} (List·Permᴰ·cons {a = a} {b = b} {l₁ = l₁} {l₂ = l₂} e d) m = step (perm-mem d) (List·Memᴰ·cases-cons m)
+    where
+      step : (List·Memᴰ x l₁ → List·Memᴰ x l₂) → (x ≡ a) ⊎ List·Memᴰ x l₁ → List·Memᴰ x (b ∷ l₂)
+      step rest (inl k) = List·Memᴰ·head (k ∙ e)
+      step rest (inr k) = List·Memᴰ·tail (rest k)
+  perm-mem {x} (List·Permᴰ·swap {a = a} {b = b} {a′ = a′} {b′ = b′} {l = l} e₁ e₂) m = step (List·Memᴰ·cases-cons m)
+    where
+      later : (x ≡ b) ⊎ List·Memᴰ x l → List·Memᴰ x (a′ ∷ b′ ∷ l)
+      later (inl k) = List·Memᴰ·head (k ∙ e₂)
+      later (inr k) = List·Memᴰ·tail (List·Memᴰ·tail k)
+
+      step : (x ≡ a) ⊎ List·Memᴰ x (b ∷ l) → List·Memᴰ x (a′ ∷ b′ ∷ l)
+      step (inl k) = List·Memᴰ·tail (List·Memᴰ·head (k ∙ e₁))
+      step (inr k) = later (List·Memᴰ·cases-cons k)
+  perm-mem (List·Permᴰ·trans d₁ d₂) m = perm-mem d₂ (perm-mem d₁ m)

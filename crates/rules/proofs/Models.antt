@@ -1,0 +1,72 @@
+-- Forcing loses no agreeing stable model: the model's total map is closed and holds the compute lists, so the least such map is
+-- below it.
+use Prim.Native.Nat.{ℕ}
+use mathlib.Core.Path.{_≡_, refl, sym, _∙_, subst}
+use mathlib.Core.Logic.{_⊎_, inl, inr, ⊎-elim}
+use mathlib.Core.Bool.{Bool, true, false, not}
+use mathlib.Core.List.{List, [], _∷_, _++_, map, List·Memᴰ, List·Memᴰ·append-cases, Memᴰ·append-left, Memᴰ·append-right}
+use lib.Dec.{T}
+use Rattle.rules.specs.Sum.{has}
+use Rattle.rules.specs.Rule.{Rule, Sheet, Within, Numbered}
+use Rattle.rules.specs.Stable.{Set, outside, Agrees, Model}
+use Rattle.rules.specs.Map.{Map, Literal, Holding, IsMap, want, is, total, _⊑_}
+use Rattle.rules.specs.Forcing.{Closed, Least, Contradiction, Pinned, computed, inn, out}
+use Rattle.rules.proofs.Tests.{eq-T, T-eq, ne-T, has-mem, mem-has}
+use Rattle.rules.proofs.Members.{map-mem, mem-map}
+use Rattle.rules.proofs.Maps.{want-apart}
+use Rattle.rules.proofs.Least.{holding-append}
+use Rattle.rules.proofs.Total.{total-in, total-out, stable-closed, stable-within}
+
+module _ {sh : Sheet} (ok : Numbered sh) where
+  abbrev n : ℕ
+  n = sh .atoms
+
+  pub model-holding : {S : Set} → Model sh S → Holding (computed sh) (total n S)
+  model-holding {S} md p m = ⊎-elim ins outs (List·Memᴰ·append-cases (map inn (sh .computeIn)) m)
+    where
+      at : {q : Literal} → p ≡ q → total n S (q .atom) ≡ want (q .sign) → total n S (p .atom) ≡ want (p .sign)
+      at e h = subst (λ (x : Literal). total n S (x .atom) ≡ want (x .sign)) (sym e) h
+
+      ins : List·Memᴰ p (map inn (sh .computeIn)) → total n S (p .atom) ≡ want (p .sign)
+      ins k =
+          let t = map-mem inn (sh .computeIn) k in
+          let i = mem-has (t .1) in
+          at (t .2) (total-in S (ok .computeIn (t .0) i) (md .agrees .holdsIn (t .0) i))
+
+      outs : List·Memᴰ p (map out (sh .computeOut)) → total n S (p .atom) ≡ want (p .sign)
+      outs k =
+          let t = map-mem out (sh .computeOut) k in
+          let i = mem-has (t .1) in
+          at (t .2) (total-out S (ok .computeOut (t .0) i) (md .agrees .holdsOut (t .0) i))
+
+  pub model-closed : {S : Set} → Model sh S → Closed (sh .rules) n (total n S)
+  model-closed md = stable-closed (ok .rules) (md .stable)
+
+  pub model-pinned : {S : Set} (ps : List Literal) → Model sh S → Holding ps (total n S) → Pinned sh ps (total n S)
+  model-pinned {S} ps md h = holding-append (total n S) (computed sh) ps (model-holding md) h
+
+  -- every agreeing stable model that holds the pins agrees with the least map
+  pub loses-none :
+      (ps : List Literal) {M : Map} {S : Set} → Least (sh .rules) n (Pinned sh ps) M → Model sh S → Holding ps (total n S)
+      → M ⊑ total n S
+  loses-none ps {M} {S} l md h = l .below (total n S) (model-closed md) (model-pinned ps md h)
+
+  -- and there is none where the answer is contradiction
+  pub none-lost :
+      (ps : List Literal) {S : Set} → Contradiction (sh .rules) n (Pinned sh ps) → Model sh S → Holding ps (total n S) → ⊥
+  none-lost ps {S} c md h = c (total n S) (model-closed md) (model-pinned ps md h)
+
+-- a map that holds the compute lists has an in-set that agrees
+pub holding-agrees : (sh : Sheet) (M : Map) → Holding (computed sh) M → Agrees sh (is 1 M)
+holding-agrees sh M h =
+    record {
+      holdsIn =
+          λ a t. eq-T (h (inn a) (Memᴰ·append-left (map out (sh .computeOut)) (mem-map inn (has-mem a (sh .computeIn) t))));
+      holdsOut =
+          λ a t.
+          ne-T
+          (λ e.
+          want-apart
+          false
+          (sym (h (out a) (Memᴰ·append-right (map inn (sh .computeIn)) (mem-map out (has-mem a (sh .computeOut) t)))) ∙ e));
+    }
