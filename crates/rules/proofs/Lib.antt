@@ -10,3 +10,7 @@ pub mod Least
 pub mod Models
 pub mod Shuffle
 pub mod First
+pub mod Lists
+pub mod Fixpoint
+pub mod Derived
+pub mod Paper

@@ -6,3 +6,4 @@ pub mod Map
 pub mod Forcing
 pub mod Search
 pub mod Number
+pub mod Paper
