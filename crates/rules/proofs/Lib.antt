@@ -14,3 +14,4 @@ pub mod Lists
 pub mod Fixpoint
 pub mod Derived
 pub mod Paper
+pub mod Bytes

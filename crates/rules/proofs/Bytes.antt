@@ -1,0 +1,111 @@
+-- A map held in bytes: atom a at index a - 1. Writing a side to an undecided atom's byte gives the map that is above the old one
+-- and below every map above the old one that has the atom on that side.
+use Prim.Native.Nat.{ℕ, zero, suc, _+_, _-_, _≤_, _<_}
+use mathlib.Core.Path.{_≡_, refl, sym, _∙_, subst, ap}
+use mathlib.Core.Logic.{_⊎_, inl, inr, ⊎-elim}
+use mathlib.Core.Bool.{Bool, true, false, not, cond}
+use mathlib.Core.List.{List, [], _∷_}
+use native.Mathlib.Omega.{arith}
+use lib.ListN.{length, getD, set}
+use lib.Seq.{getD-set-same, getD-set-other}
+use lib.Dec.{T, eqb}
+use Rattle.rules.specs.Rule.{Within}
+use Rattle.rules.specs.Map.{Map, IsMap, inside, side, want, _⊑_}
+use Rattle.rules.proofs.Tests.{decided, T-eq, T-ne}
+use Rattle.rules.proofs.Inside.{inside-true, inside-false, within?}
+use Rattle.rules.proofs.Maps.{want-decided}
+
+pub side-at : (n : ℕ) (m : List ℕ) (a : ℕ) → Within n a → side n m a ≡ getD m (a - 1) 0
+unfolding side
+side-at n m a w = ap (λ (b : Bool). cond b (getD m (a - 1) 0) 0) (inside-true w)
+
+pub side-beyond : (n : ℕ) (m : List ℕ) (a : ℕ) → (Within n a → ⊥) → side n m a ≡ 0
+unfolding side
+side-beyond n m a o = ap (λ (b : Bool). cond b (getD m (a - 1) 0) 0) (inside-false o)
+
+-- a byte and its atom
+pub index-within : (n i : ℕ) → i < n → Within n (i + 1)
+index-within n i h = record { low = omega arith; high = omega arith }
+
+pub side-index : (n : ℕ) (m : List ℕ) (i : ℕ) → i < n → side n m (i + 1) ≡ getD m i 0
+side-index n m i h = side-at n m (i + 1) (index-within n i h) ∙ ap (λ (k : ℕ). getD m k 0) (omega arith)
+
+-- bytes of 0, 1 and 2 are a map
+pub side-map : (n : ℕ) (m : List ℕ) → ((i : ℕ) → i < n → getD m i 0 ≤ 2) → IsMap n (side n m)
+side-map n m small =
+    record {
+      sides =
+          λ a.
+          ⊎-elim
+          (λ (w : Within n a). omega (arith, side-at n m a w, small (a - 1) (omega (arith, w .low, w .high))))
+          (λ o. omega (arith, side-beyond n m a o))
+          (within? n a);
+      beyond = λ a o. side-beyond n m a o;
+    }
+
+pub map-side : (n : ℕ) (m : List ℕ) → IsMap n (side n m) → (i : ℕ) → i < n → getD m i 0 ≤ 2
+map-side n m mp i h = omega (arith, side-index n m i h, mp .sides (i + 1))
+
+-- bytes that agree below n are the same map
+pub side-same : (n : ℕ) (m m′ : List ℕ) → ((i : ℕ) → i < n → getD m i 0 ≡ getD m′ i 0) → (a : ℕ) → side n m a ≡ side n m′ a
+side-same n m m′ e a =
+    ⊎-elim
+    (λ (w : Within n a). side-at n m a w ∙ e (a - 1) (omega (arith, w .low, w .high)) ∙ sym (side-at n m′ a w))
+    (λ o. side-beyond n m a o ∙ sym (side-beyond n m′ a o))
+    (within? n a)
+
+module _ (n : ℕ) (m : List ℕ) (a : ℕ) (w : Within n a) (long : n ≤ length m) where
+  pub written-same : (v : ℕ) → side n (set m (a - 1) v) a ≡ v
+  written-same v = side-at n (set m (a - 1) v) a w ∙ getD-set-same m (a - 1) v 0 (omega (arith, w .low, w .high))
+
+  pub written-other : (v b : ℕ) → (b ≡ a → ⊥) → side n (set m (a - 1) v) b ≡ side n m b
+  written-other v b o =
+      ⊎-elim
+      (λ (u : Within n b).
+      side-at n (set m (a - 1) v) b u ∙ getD-set-other m (a - 1) (b - 1) v 0 (λ e. o (omega (arith, e, u .low, w .low)))
+      ∙ sym (side-at n m b u))
+      (λ u. side-beyond n (set m (a - 1) v) b u ∙ sym (side-beyond n m b u))
+      (within? n b)
+
+  module _ (s : Bool) where
+    abbrev written : Map
+    written = side n (set m (a - 1) (want s))
+
+    pub written-above : side n m a ≡ 0 → side n m ⊑ side n (set m (a - 1) (want s))
+    written-above z =
+        record {
+          keeps =
+              λ t b e.
+              written-other (want s) b (λ q. want-decided t (sym e ∙ ap (side n m) q ∙ z)) ∙ e;
+        }
+
+    pub written-below : (X : Map) → side n m ⊑ X → X a ≡ want s → side n (set m (a - 1) (want s)) ⊑ X
+    written-below X f e =
+        record { keeps = λ t b h. ⊎-elim (here t b h) (other t b h) (decided (eqb b a)) }
+      where
+        here : (t : Bool) (b : ℕ) → side n (set m (a - 1) (want s)) b ≡ want t → T (eqb b a) → X b ≡ want t
+        here t b h q =
+            let k : b ≡ a = T-eq q in
+            ap X k ∙ e ∙ sym (written-same (want s)) ∙ sym (ap (side n (set m (a - 1) (want s))) k) ∙ h
+
+        other : (t : Bool) (b : ℕ) → side n (set m (a - 1) (want s)) b ≡ want t → T (not (eqb b a)) → X b ≡ want t
+        other t b h q = f .keeps t b (sym (written-other (want s) b (T-ne q)) ∙ h)
+
+    pub written-map : IsMap n (side n m) → IsMap n (side n (set m (a - 1) (want s)))
+    written-map mp =
+        record {
+          sides = λ b. ⊎-elim (here b) (other b) (decided (eqb b a));
+          beyond = λ b o. side-beyond n (set m (a - 1) (want s)) b o;
+        }
+      where
+        small : (t : Bool) → want t ≤ 2
+        small true = omega arith
+        small false = omega arith
+
+        here : (b : ℕ) → T (eqb b a) → side n (set m (a - 1) (want s)) b ≤ 2
+        here b q =
+            omega
+            (arith, ap (side n (set m (a - 1) (want s))) (T-eq {a = b} {b = a} q), written-same (want s), small s)
+
+        other : (b : ℕ) → T (not (eqb b a)) → side n (set m (a - 1) (want s)) b ≤ 2
+        other b q = omega (arith, written-other (want s) b (T-ne q), mp .sides b)
