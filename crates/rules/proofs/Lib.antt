@@ -15,3 +15,6 @@ pub mod Fixpoint
 pub mod Derived
 pub mod Paper
 pub mod Bytes
+pub mod Founding
+pub mod Concluding
+pub mod Closing
