@@ -18,3 +18,5 @@ pub mod Bytes
 pub mod Founding
 pub mod Concluding
 pub mod Closing
+pub mod Opening
+pub mod Searching

@@ -1,0 +1,309 @@
+-- The search for the first model, computed: the lowest undecided atom is tried in, then out, each closed first. Every closed map on
+-- the way decides at least one atom more, so there are no more guesses in a row than undecided atoms.
+use Prim.Native.Nat.{ℕ, zero, suc, _+_, _-_, _≤_, _<_}
+use mathlib.Core.Path.{_≡_, refl, sym, _∙_, subst, ap}
+use mathlib.Core.Logic.{_⊎_, inl, inr, ⊎-elim}
+use mathlib.Core.Bool.{Bool, true, false, not, cond}
+use mathlib.Core.List.{List, [], _∷_, _++_, List·Memᴰ, List·Memᴰ·head, List·Memᴰ·not-nil}
+use native.Mathlib.Omega.{arith}
+use native.Mathlib.Nat.{not-suc-le-zero, eq-or-lt-of-le, le-of-suc-le-suc}
+use lib.ListN.{length, set, length-set}
+use lib.Dec.{T, eqb, T-not}
+use Rattle.rules.specs.Sum.{tally}
+use Rattle.rules.specs.Rule.{Rule, Sheet, Within, Numbered}
+use Rattle.rules.specs.Stable.{Set, outside, Model, FirstOf, First, NoModel}
+use Rattle.rules.specs.Map.{Map, Literal, Holding, IsMap, side, want, is, total, _⊑_}
+use Rattle.rules.specs.Forcing.{Closed, Least, Contradiction, Pinned, computed}
+use Rattle.rules.specs.Search.{Above, Lowest}
+use Rattle.rules.proofs.Tests.{eq-T, T-eq, ne-T, T-ne, decided}
+use Rattle.rules.proofs.Sum.{tally-mono}
+use Rattle.rules.proofs.Lists.{upTo, upTo-within}
+use Rattle.rules.proofs.Maps.{sides, want-decided, ⊑-trans}
+use Rattle.rules.proofs.Bytes.{written-same, written-above, written-below, written-map}
+use Rattle.rules.proofs.Least.{holding-nil, holding-cons, holding-append, holding-up, holding-left, least-same, contradiction-same}
+use Rattle.rules.proofs.Total.{total-in, total-out, in-total, out-total}
+use Rattle.rules.proofs.Models.{model-closed, model-holding}
+use Rattle.rules.proofs.First.{first-same, try-in, try-out, try-none, above-pin, pin-above, pin-on, pin-none, leaf, first-above, none-at-all}
+use Rattle.rules.proofs.Closing.{Ending, closedAt, clash, closing, closing-right, undecided, undecided-falls, Right}
+use Rattle.rules.proofs.Opening.{few, opening, opening-right, Opened}
+
+abbrev orNext : ℕ → ℕ → ℕ
+orNext zero b = b
+orNext (suc a) b = suc a
+
+-- the lowest undecided atom up to k, or 0
+unfoldable pub lowest : Map → ℕ → ℕ
+lowest M zero = zero
+lowest M (suc k) = orNext (lowest M k) (cond (eqb (M (suc k)) 0) (suc k) 0)
+
+abbrev LowestRight : Map → ℕ → ℕ → Type 0
+LowestRight M k zero = (a : ℕ) → Within k a → M a ≡ 0 → ⊥
+LowestRight M k (suc a) = Lowest k M (suc a)
+
+lowest-right : (M : Map) (k : ℕ) → LowestRight M k (lowest M k)
+unfolding lowest
+lowest-right M zero = λ a w e. absurd (omega (arith, w .low, w .high))
+lowest-right M (suc k) = step (lowest M k) (lowest-right M k)
+  where
+    within-up : (a : ℕ) → Within (suc k) a → (a ≡ suc k) ⊎ Within k a
+    within-up a w =
+        ⊎-elim
+        (λ (e : a ≡ suc k). inl e)
+        (λ (l : a < suc k). inr (record { low = w .low; high = omega (arith, l) }))
+        (eq-or-lt-of-le (w .high))
+
+    here : LowestRight M k zero → (b : Bool) → eqb (M (suc k)) 0 ≡ b → LowestRight M (suc k) (cond b (suc k) 0)
+    here none true e =
+        record {
+          within = record { low = omega arith; high = omega arith };
+          undecided = T-eq (subst T (sym e) tt);
+          lower = λ b w l z. none b (record { low = w .low; high = omega (arith, l) }) z;
+        }
+    here none false e =
+        λ a w z.
+        ⊎-elim
+        (λ (q : a ≡ suc k). subst T e (eq-T (sym (ap M q) ∙ z)))
+        (λ (v : Within k a). none a v z)
+        (within-up a w)
+
+    step : (a : ℕ) → LowestRight M k a → LowestRight M (suc k) (orNext a (cond (eqb (M (suc k)) 0) (suc k) 0))
+    step zero none = here none (eqb (M (suc k)) 0) refl
+    step (suc a) l =
+        record {
+          within = record { low = l .within .low; high = omega (arith, l .within .high) };
+          undecided = l .undecided;
+          lower = λ b w lt z. l .lower b (record { low = w .low; high = omega (arith, lt, l .within .high) }) lt z;
+        }
+
+pub data Found : Type 0 where
+  model : List ℕ → Found
+  noModel : Found
+
+abbrev orElse : Found → (ℕ → Found) → ℕ → Found
+orElse (model m) f a = model m
+orElse noModel f a = f a
+
+abbrev onClosed : Ending → (List ℕ → Found) → Found
+onClosed (closedAt m) f = f m
+onClosed clash f = noModel
+
+module _ (P : List Rule) (n : ℕ) where
+  abbrev guess : Bool → List ℕ → ℕ → List ℕ
+  guess s m a = set m (a - 1) (want s)
+
+  abbrev at : (List ℕ → Found) → List ℕ → ℕ → Found
+  at f m zero = model m
+  at f m (suc a) =
+      orElse (onClosed (closing P n (suc n) (guess true m (suc a))) f) (λ b. onClosed (closing P n (suc n) (guess false m b)) f) (suc a)
+
+  unfoldable pub searching : ℕ → List ℕ → Found
+  searching zero m = noModel
+  searching (suc k) m = at (λ q. searching k q) m (lowest (side n m) n)
+
+-- fewer undecided atoms above
+undecided-mono : (n : ℕ) (m q : List ℕ) → side n m ⊑ side n q → IsMap n (side n m) → undecided n q ≤ undecided n m
+undecided-mono n m q f mp =
+    tally-mono
+    (λ a. eqb (side n q a) 0)
+    (λ a. eqb (side n m a) 0)
+    (λ _. 1)
+    (upTo n)
+    (λ a _ t. step a (T-eq t) (sides (side n m a) (mp .sides a) true))
+  where
+    step : (a : ℕ) → side n q a ≡ 0 → (side n m a ≡ 0) ⊎ ((side n m a ≡ 1) ⊎ (side n m a ≡ 2)) → T (eqb (side n m a) 0)
+    step a z (inl e) = eq-T e
+    step a z (inr (inl e)) = absurd (want-decided true (sym (f .keeps true a e) ∙ z))
+    step a z (inr (inr e)) = absurd (want-decided false (sym (f .keeps false a e) ∙ z))
+
+-- a set on a literal's side
+abbrev On : Bool → Set → ℕ → Type 0
+On true X a = T (X a)
+On false X a = T (outside X a)
+
+on-total : (n : ℕ) (s : Bool) (X : Set) (a : ℕ) → Within n a → On s X a → total n X a ≡ want s
+on-total n true X a w t = total-in X w t
+on-total n false X a w t = total-out X w t
+
+total-on : (n : ℕ) (s : Bool) (X : Set) (a : ℕ) → total n X a ≡ want s → On s X a
+total-on n true X a e = in-total n a X e
+total-on n false X a e = out-total n a X e
+
+module _ {sh : Sheet} (ok : Numbered sh) where
+  abbrev n : ℕ
+  n = sh .atoms
+
+  abbrev P : List Rule
+  P = sh .rules
+
+  -- the answer for the models that satisfy Q
+  abbrev FoundRight : (Set → Type 0) → Found → Type 0
+  FoundRight Q (model m) = FirstOf Q (is 1 (side n m))
+  FoundRight Q noModel = (X : Set) → Q X → ⊥
+
+  abbrev Searched : ℕ → Type 0
+  Searched k =
+      (m : List ℕ) → Closed P n (side n m) → Holding (computed sh) (side n m) → n ≤ length m → undecided n m < k
+      → FoundRight (Above sh (side n m)) (searching P n k m)
+
+  module _ (k : ℕ) (rec : Searched k) (m : List ℕ) (x : Closed P n (side n m)) (held : Holding (computed sh) (side n m)) (long : n ≤ length m) (less : undecided n m < suc k) where
+    abbrev M : Map
+    M = side n m
+
+    module _ (a : ℕ) (low : Lowest n (side n m) a) where
+      abbrev Branch : Bool → Set → Type 0
+      Branch s X = Above sh M X × On s X a
+
+      module _ (s : Bool) where
+        abbrev p : Literal
+        p = record { atom = a; sign = s }
+
+        abbrev g : List ℕ
+        g = guess P n s m a
+
+        abbrev Asked : Map → Type 0
+        Asked X = (M ⊑ X) × Holding (p ∷ []) X
+
+        asked : (X : Map) → side n g ⊑ X → Asked X
+        asked X f = (
+          ⊑-trans (written-above n m a (low .within) long s (low .undecided)) f,
+          holding-cons
+              X
+              p
+              []
+              (f .keeps s a (written-same n m a (low .within) long (want s)))
+              (holding-nil X),
+        )
+
+        answered : (X : Map) → Asked X → side n g ⊑ X
+        answered X q = written-below n m a (low .within) long s X (q .0) (q .1 p (List·Memᴰ·head refl))
+
+        pass : (q : List ℕ) → Least P n Asked (side n q) → (f : Found) → FoundRight (Above sh (side n q)) f → FoundRight (Branch s) f
+        pass q l (model r) h =
+            first-same
+            (Above sh (side n q))
+            (Branch s)
+            (λ X u. (pin-above ok M p l X u, total-on n s X a (pin-on ok M p l X u)))
+            (λ X u. above-pin ok M p l X (u .0) (on-total n s X a (low .within) (u .1)))
+            h
+        pass q l noModel h = λ X u. h X (above-pin ok M p l X (u .0) (on-total n s X a (low .within) (u .1)))
+
+        branch : FoundRight (Branch s) (onClosed (closing P n (suc n) g) (λ q. searching P n k q))
+        branch =
+            step
+            (closing P n (suc n) g)
+            (closing-right
+            P
+            n
+            (ok .rules)
+            (suc n)
+            g
+            (written-map n m a (low .within) long s (x .isMap))
+            (omega (arith, length-set m (a - 1) (want s), long))
+            (omega (arith, few n (λ b. eqb (side n g b) 0))))
+          where
+            step : (e : Ending) → Right P n g e → FoundRight (Branch s) (onClosed e (λ q. searching P n k q))
+            step (closedAt q) r =
+                let l : Least P n Asked (side n q) = least-same (λ X. side n g ⊑ X) Asked asked answered (r .0) in
+                pass
+                q
+                l
+                (searching P n k q)
+                (rec
+                q
+                (l .closed)
+                (holding-up (computed sh) (l .holding .0) held)
+                (omega (arith, r .1, length-set m (a - 1) (want s), long))
+                (omega (
+                  arith,
+                  undecided-mono n g q (r .0 .holding) (written-map n m a (low .within) long s (x .isMap)),
+                  undecided-falls
+                      n
+                      m
+                      a
+                      (low .within)
+                      long
+                      s
+                      (low .undecided),
+                  less,
+                )))
+            step clash r =
+                λ X u.
+                pin-none
+                ok
+                M
+                p
+                (contradiction-same (λ Y. side n g ⊑ Y) Asked answered r)
+                X
+                (u .0)
+                (on-total n s X a (low .within) (u .1))
+
+      otherwise : ((X : Set) → Branch true X → ⊥) → (f : Found) → FoundRight (Branch false) f → FoundRight (Above sh M) f
+      otherwise none (model r) h = try-out ok (x .isMap) low (λ X q t. none X (q, t)) h
+      otherwise none noModel h = try-none ok (x .isMap) low (λ X q t. none X (q, t)) (λ X q t. h X (q, t))
+
+      both :
+          (f : Found) (f′ : ℕ → Found) → FoundRight (Branch true) f → FoundRight (Branch false) (f′ a)
+          → FoundRight (Above sh M) (orElse f f′ a)
+      both (model r) f′ h h′ = try-in ok (x .isMap) low h
+      both noModel f′ h h′ = otherwise h (f′ a) h′
+
+    found : (a : ℕ) → LowestRight (side n m) n a → FoundRight (Above sh M) (at P n (λ q. searching P n k q) m a)
+    found zero none = leaf ok x none held
+    found (suc a) low =
+        both
+        (suc a)
+        low
+        (onClosed (closing P n (suc n) (guess P n true m (suc a))) (λ q. searching P n k q))
+        (λ b. onClosed (closing P n (suc n) (guess P n false m b)) (λ q. searching P n k q))
+        (branch (suc a) low true)
+        (branch (suc a) low false)
+
+  pub searching-right : (k : ℕ) → Searched k
+  unfolding searching
+  searching-right zero m x held long less = absurd (not-suc-le-zero less)
+  searching-right (suc k) m x held long less =
+      found k (searching-right k) m x held long less (lowest (side n m) n) (lowest-right (side n m) n)
+
+-- the first model of a sheet
+unfoldable pub solving : Sheet → Found
+solving sh = onClosed (opening sh []) (λ m. searching (sh .rules) (sh .atoms) (suc (sh .atoms)) m)
+
+abbrev pub Solved : Sheet → Found → Type 0
+Solved sh (model m) = First sh (is 1 (side (sh .atoms) m))
+Solved sh noModel = NoModel sh
+
+pub solving-right : {sh : Sheet} → Numbered sh → Solved sh (solving sh)
+unfolding solving
+solving-right {sh} ok = step (opening sh []) (opening-right ok [] (λ p i. absurd (List·Memᴰ·not-nil i)))
+  where
+    n : ℕ
+    n = sh .atoms
+
+    whole : (X : Map) → Holding (computed sh) X → Holding (computed sh ++ []) X
+    whole X h = holding-append X (computed sh) [] h (holding-nil X)
+
+    finish :
+        (m : List ℕ) → Least (sh .rules) n (Holding (computed sh)) (side n m) → (f : Found) → FoundRight ok (Above sh (side n m)) f
+        → Solved sh f
+    finish m l (model q) h = first-above ok l h
+    finish m l noModel h = λ X md. h X (md, l .below (total n X) (model-closed ok md) (model-holding ok md))
+
+    step : (e : Ending) → Opened sh [] e → Solved sh (onClosed e (λ m. searching (sh .rules) n (suc n) m))
+    step (closedAt m) r =
+        let
+        l : Least (sh .rules) n (Holding (computed sh)) (side n m)
+        = least-same (Pinned sh []) (Holding (computed sh)) (λ X h. holding-left X (computed sh) [] h) whole (r .0)
+        in
+        finish
+        m
+        l
+        (searching (sh .rules) n (suc n) m)
+        (searching-right
+        ok
+        (suc n)
+        m
+        (l .closed)
+        (l .holding)
+        (r .1)
+        (omega (arith, few n (λ b. eqb (side n m b) 0))))
+    step clash r = λ X md. none-at-all ok (contradiction-same (Pinned sh []) (Holding (computed sh)) whole r) X md
