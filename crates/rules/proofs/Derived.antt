@@ -10,10 +10,11 @@ use lib.Dec.{T, leb, leb→le, le→leb, T-not}
 use Rattle.rules.specs.Sum.{has}
 use Rattle.rules.specs.Rule.{Rule, Weighted, Within, Fits, body, chooses}
 use Rattle.rules.specs.Stable.{Set, outside, value, Gives, Contains, Below, Stable}
-use Rattle.rules.proofs.Tests.{and-T, T-and-left, T-and-right, T-or, or-left, or-right, T-same, has-mem, decided}
-use Rattle.rules.proofs.Lists.{some, some-T, T-some, each, mem-each}
+use Rattle.rules.proofs.Tests.{and-T, T-and-left, T-and-right, T-or, or-left, or-right, T-same, beq-eq, eq-beq, has-mem, decided}
+use Rattle.rules.proofs.Inside.{within?}
+use Rattle.rules.proofs.Lists.{some, some-T, T-some, every, every-T, T-every, each, mem-each, upTo, within-upTo}
 use Rattle.rules.proofs.Value.{by, value-mono}
-use Rattle.rules.proofs.Fixpoint.{smallest, smallest-closed, smallest-below, smallest-passes}
+use Rattle.rules.proofs.Fixpoint.{elements, smallest, smallest-closed, smallest-below, smallest-passes}
 
 -- does the rule give the atom?
 abbrev pub gives : Rule → Set → Set → ℕ → Bool
@@ -112,3 +113,32 @@ module _ (P : List Rule) (S : Set) where
             subst T (sym (e a)) (derived-contains r m a (gives-mono r S S derived (λ b t. subst T (e b) t) a g));
         smallest = λ C c a t. derived-below C c a (subst T (e a) t);
       }
+
+-- is the list's set stable? A test that is computed
+abbrev pub isStable : List Rule → ℕ → List ℕ → Bool
+isStable P n S = every (λ a. Bool·beq (has a S) (derived P (elements S) a)) (upTo n)
+
+module _ {n : ℕ} {P : List Rule} (fits : Fits n P) (S : List ℕ) (small : (a : ℕ) → T (has a S) → Within n a) where
+  derived-within : (a : ℕ) → T (derived P (elements S) a) → Within n a
+  derived-within a t =
+      let k = derived-given P (elements S) a t in
+      fits .head (k .0) (k .1) a (k .2 .head)
+
+  pub isStable-T : T (isStable P n S) → Stable P (elements S)
+  isStable-T t = derived-stable P (elements S) same
+    where
+      same : (a : ℕ) → has a S ≡ derived P (elements S) a
+      same a =
+          ⊎-elim
+          (λ (w : Within n a).
+          beq-eq (has a S) (derived P (elements S) a) (every-T (λ b. Bool·beq (has b S) (derived P (elements S) b)) (upTo n) t a (within-upTo n w)))
+          (λ (o : Within n a → ⊥).
+          T-same (has a S) (derived P (elements S) a) (λ h. absurd (o (small a h))) (λ h. absurd (o (derived-within a h))))
+          (within? n a)
+
+  pub T-isStable : Stable P (elements S) → T (isStable P n S)
+  T-isStable st =
+      T-every
+      (λ b. Bool·beq (has b S) (derived P (elements S) b))
+      (upTo n)
+      (λ a _. eq-beq (has a S) (derived P (elements S) a) (stable-derived P (elements S) st a))

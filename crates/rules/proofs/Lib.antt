@@ -20,3 +20,5 @@ pub mod Concluding
 pub mod Closing
 pub mod Opening
 pub mod Searching
+pub mod Cases
+pub mod Mistakes

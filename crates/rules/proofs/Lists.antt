@@ -2,7 +2,7 @@
 use Prim.Native.Nat.{ℕ, zero, suc, _+_, _≤_, _<_}
 use mathlib.Core.Path.{_≡_, refl, sym, _∙_, subst, ap}
 use mathlib.Core.Logic.{_⊎_, inl, inr, ⊎-elim}
-use mathlib.Core.Bool.{Bool, true, false, not, _||_, cond}
+use mathlib.Core.Bool.{Bool, true, false, not, _||_, _&&_, cond}
 use mathlib.Core.List.{List, [], _∷_, _++_, List·Memᴰ, List·Memᴰ·head, List·Memᴰ·tail, List·Memᴰ·cases-cons, List·Memᴰ·not-nil, List·Memᴰ·append-cases, Memᴰ·append-left, Memᴰ·append-right}
 use native.Mathlib.Omega.{arith}
 use native.Mathlib.Nat.{eq-or-lt-of-le}
@@ -10,7 +10,7 @@ use lib.ListN.{length}
 use lib.Dec.{T}
 use Rattle.rules.specs.Rule.{Within}
 use Rattle.rules.specs.Paper.{those}
-use Rattle.rules.proofs.Tests.{T-or, or-left, or-right}
+use Rattle.rules.proofs.Tests.{T-or, or-left, or-right, and-T, T-and-left, T-and-right}
 
 module _ {A : Type 0} where
   pub mem-length : {x : A} {xs : List A} → List·Memᴰ x xs → 1 ≤ length xs
@@ -33,6 +33,19 @@ module _ {A : Type 0} where
   pub T-some : (p : A → Bool) {x : A} {xs : List A} → List·Memᴰ x xs → T (p x) → T (some p xs)
   T-some p {x} (List·Memᴰ·head {x = y} {xs = ys} e) t = or-left (p y) (some p ys) (subst (λ (z : A). T (p z)) e t)
   T-some p (List·Memᴰ·tail {x = y} {xs = ys} m) t = or-right (p y) (some p ys) (T-some p m t)
+
+  -- does every element of the list pass the test?
+  abbrev pub every : (A → Bool) → List A → Bool
+  every p [] = true
+  every p (x ∷ xs) = p x && every p xs
+
+  pub every-T : (p : A → Bool) (xs : List A) → T (every p xs) → (x : A) → List·Memᴰ x xs → T (p x)
+  every-T p (y ∷ ys) t x (List·Memᴰ·head e) = subst (λ (z : A). T (p z)) (sym e) (T-and-left (p y) (every p ys) t)
+  every-T p (y ∷ ys) t x (List·Memᴰ·tail m) = every-T p ys (T-and-right (p y) (every p ys) t) x m
+
+  pub T-every : (p : A → Bool) (xs : List A) → ((x : A) → List·Memᴰ x xs → T (p x)) → T (every p xs)
+  T-every p [] f = tt
+  T-every p (x ∷ xs) f = and-T (p x) (every p xs) (f x (List·Memᴰ·head refl)) (T-every p xs (λ y m. f y (List·Memᴰ·tail m)))
 
   pub those-mem : (p : A → Bool) (xs : List A) {x : A} → List·Memᴰ x (those p xs) → List·Memᴰ x xs × T (p x)
   unfolding those

@@ -2,7 +2,7 @@
 use Prim.Native.Nat.{ℕ, zero, suc, _≤_, _<_}
 use mathlib.Core.Path.{_≡_, refl, sym, subst, ap, _∙_}
 use mathlib.Core.Logic.{_⊎_, inl, inr, ⊎-elim}
-use mathlib.Core.Bool.{Bool, true, false, not, _&&_, _||_}
+use mathlib.Core.Bool.{Bool, true, false, not, _&&_, _||_, Bool·beq}
 use mathlib.Core.List.{List, [], _∷_, List·Memᴰ, List·Memᴰ·head, List·Memᴰ·tail, List·Memᴰ·cases-cons, List·Memᴰ·not-nil}
 use native.Mathlib.Nat.{eq-or-lt-of-le}
 use lib.Dec.{T, eqb, ltb, eqb→eq, eqb-refl, not-T, T-not, ltb→lt, nltb→le}
@@ -37,6 +37,16 @@ T-same true true f g = refl
 T-same true false f g = absurd (f tt)
 T-same false true f g = absurd (g tt)
 T-same false false f g = refl
+
+pub beq-eq : (a b : Bool) → T (Bool·beq a b) → a ≡ b
+beq-eq true true t = refl
+beq-eq true false t = absurd t
+beq-eq false true t = absurd t
+beq-eq false false t = refl
+
+pub eq-beq : (a b : Bool) → a ≡ b → T (Bool·beq a b)
+eq-beq true b e = subst (λ (x : Bool). T (Bool·beq true x)) e tt
+eq-beq false b e = subst (λ (x : Bool). T (Bool·beq false x)) e tt
 
 pub and-T : (a b : Bool) → T a → T b → T (a && b)
 and-T true b s t = t

@@ -7,3 +7,4 @@ pub mod Forcing
 pub mod Search
 pub mod Number
 pub mod Paper
+pub mod Cases
