@@ -13,7 +13,7 @@ use Rattle.rules.specs.Rule.{Rule, Sheet, Within, Numbered}
 use Rattle.rules.specs.Stable.{Set, outside, Before, FirstOf, First, Model}
 use Rattle.rules.specs.Map.{Map, Literal, Holding, IsMap, want, is, total, _⊑_}
 use Rattle.rules.specs.Forcing.{Closed, Least, Contradiction, computed}
-use Rattle.rules.specs.Search.{Above, Lowest}
+use Rattle.rules.specs.Search.{Above, Lowest, On, Branch, Guess}
 use Rattle.rules.proofs.Tests.{eq-T, ne-T, T-ne, T-true, T-false, decided, order}
 use Rattle.rules.proofs.Inside.{within?}
 use Rattle.rules.proofs.Maps.{sides, decided-within, want-apart, want-decided, ⊑-trans}
@@ -62,6 +62,14 @@ firstOf-unique {Q} n within {S} {S′} f f′ a = step (differ S S′ (suc n))
 pub first-unique : {sh : Sheet} → Numbered sh → {S S′ : Set} → First sh S → First sh S′ → (a : ℕ) → S a ≡ S′ a
 first-unique {sh} ok = firstOf-unique {Q = Model sh} (sh .atoms) (λ S md. stable-within (ok .rules) (md .stable))
 
+on-total : (n : ℕ) (s : Bool) (X : Set) (a : ℕ) → Within n a → On s X a → total n X a ≡ want s
+on-total n true X a w t = total-in X w t
+on-total n false X a w t = total-out X w t
+
+total-on : (n : ℕ) (s : Bool) (X : Set) (a : ℕ) → total n X a ≡ want s → On s X a
+total-on n true X a e = in-total n a X e
+total-on n false X a e = out-total n a X e
+
 module _ {sh : Sheet} (ok : Numbered sh) where
   abbrev n : ℕ
   n = sh .atoms
@@ -84,7 +92,7 @@ module _ {sh : Sheet} (ok : Numbered sh) where
         step (inr (inr e)) = T-not (S b) (above-out q b e) t
 
     -- with the atom in, where there is such a model
-    pub try-in : {S : Set} → FirstOf (λ X. Above sh M X × T (X a)) S → FirstOf (Above sh M) S
+    pub try-in : {S : Set} → FirstOf (Branch sh M a true) S → FirstOf (Above sh M) S
     try-in {S} f = record { is = f .is .0; first = earlier }
       where
         earlier : (X : Set) → Above sh M X → Before X S → ⊥
@@ -97,35 +105,50 @@ module _ {sh : Sheet} (ok : Numbered sh) where
 
     -- with the atom out, where no model has it in
     pub try-out :
-        ((X : Set) → Above sh M X → T (X a) → ⊥) → {S : Set} → FirstOf (λ X. Above sh M X × T (outside X a)) S → FirstOf (Above sh M) S
+        ((X : Set) → Branch sh M a true X → ⊥) → {S : Set} → FirstOf (Branch sh M a false) S → FirstOf (Above sh M) S
     try-out none {S} f =
         record {
           is = f .is .0;
-          first = λ X q b. ⊎-elim (λ (t : T (X a)). none X q t) (λ (u : T (outside X a)). f .first X (q, u) b) (decided (X a));
+          first =
+              λ X q b. ⊎-elim (λ (t : T (X a)). none X (q, t)) (λ (u : T (outside X a)). f .first X (q, u) b) (decided (X a));
         }
 
     pub try-none :
-        ((X : Set) → Above sh M X → T (X a) → ⊥) → ((X : Set) → Above sh M X → T (outside X a) → ⊥) → (X : Set) → Above sh M X → ⊥
-    try-none f g X q = ⊎-elim (λ (t : T (X a)). f X q t) (λ (u : T (outside X a)). g X q u) (decided (X a))
+        ((X : Set) → Branch sh M a true X → ⊥) → ((X : Set) → Branch sh M a false X → ⊥) → (X : Set) → Above sh M X → ⊥
+    try-none f g X q = ⊎-elim (λ (t : T (X a)). f X (q, t)) (λ (u : T (outside X a)). g X (q, u)) (decided (X a))
 
-  -- a model above the map after a pin is one above the map before it that holds the pin
-  module _ (M : Map) (p : Literal) {M₁ : Map} (l : Least (sh .rules) n (λ X. (M ⊑ X) × Holding (p ∷ []) X) M₁) where
-    pub above-pin : (X : Set) → Above sh M X → total n X (p .atom) ≡ want (p .sign) → Above sh M₁ X
-    above-pin X q e =
-        (q .0, l .below (total n X) (model-closed ok (q .0)) (q .1, holding-cons (total n X) p [] e (holding-nil (total n X))))
+  -- a guess: the models above its closed map are those above the map before it that have the literal
+  module _ (M : Map) (a : ℕ) (w : Within n a) (s : Bool) where
+    abbrev p : Literal
+    p = record { atom = a; sign = s }
 
-    pub pin-above : (X : Set) → Above sh M₁ X → Above sh M X
-    pin-above X q = (q .0, ⊑-trans (l .holding .0) (q .1))
+    guessed : (X : Set) → Branch sh M a s X → Guess M a s (total n X)
+    guessed X q = (q .0 .1, holding-cons (total n X) p [] (on-total n s X a w (q .1)) (holding-nil (total n X)))
 
-    pub pin-on : (X : Set) → Above sh M₁ X → total n X (p .atom) ≡ want (p .sign)
-    pin-on X q = q .1 .keeps (p .sign) (p .atom) (l .holding .1 p (List·Memᴰ·head refl))
+    module _ {M₁ : Map} (l : Least (sh .rules) n (Guess M a s) M₁) where
+      onto-branch : (X : Set) → Above sh M₁ X → Branch sh M a s X
+      onto-branch X q = (
+        (q .0, ⊑-trans (l .holding .0) (q .1)),
+        total-on
+            n
+            s
+            X
+            a
+            (q .1 .keeps s a (l .holding .1 p (List·Memᴰ·head refl))),
+      )
 
-  -- no model holds a pin that ends in contradiction
-  pub pin-none :
-      (M : Map) (p : Literal) → Contradiction (sh .rules) n (λ X. (M ⊑ X) × Holding (p ∷ []) X) → (X : Set) → Above sh M X
-      → total n X (p .atom) ≡ want (p .sign) → ⊥
-  pin-none M p c X q e =
-      c (total n X) (model-closed ok (q .0)) (q .1, holding-cons (total n X) p [] e (holding-nil (total n X)))
+      from-branch : (X : Set) → Branch sh M a s X → Above sh M₁ X
+      from-branch X q = (q .0 .0, l .below (total n X) (model-closed ok (q .0 .0)) (guessed X q))
+
+      pub branch-first : {S : Set} → FirstOf (Above sh M₁) S → FirstOf (Branch sh M a s) S
+      branch-first = first-same (Above sh M₁) (Branch sh M a s) onto-branch from-branch
+
+      pub branch-none : ((X : Set) → Above sh M₁ X → ⊥) → (X : Set) → Branch sh M a s X → ⊥
+      branch-none none X q = none X (from-branch X q)
+
+    -- no model has a literal that ends in contradiction
+    pub branch-clash : Contradiction (sh .rules) n (Guess M a s) → (X : Set) → Branch sh M a s X → ⊥
+    branch-clash c X q = c (total n X) (model-closed ok (q .0 .0)) (guessed X q)
 
   -- a closed map with no undecided atom is its own first model
   pub leaf :

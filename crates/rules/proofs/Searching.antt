@@ -14,16 +14,15 @@ use Rattle.rules.specs.Rule.{Rule, Sheet, Within, Numbered}
 use Rattle.rules.specs.Stable.{Set, outside, Model, FirstOf, First, NoModel}
 use Rattle.rules.specs.Map.{Map, Literal, Holding, IsMap, side, want, is, total, _⊑_}
 use Rattle.rules.specs.Forcing.{Closed, Least, Contradiction, Pinned, computed}
-use Rattle.rules.specs.Search.{Above, Lowest}
+use Rattle.rules.specs.Search.{Above, Lowest, Branch, Guess}
 use Rattle.rules.proofs.Tests.{eq-T, T-eq, ne-T, T-ne, decided}
 use Rattle.rules.proofs.Sum.{tally-mono}
 use Rattle.rules.proofs.Lists.{upTo, upTo-within}
 use Rattle.rules.proofs.Maps.{sides, want-decided, ⊑-trans}
 use Rattle.rules.proofs.Bytes.{written-same, written-above, written-below, written-map}
 use Rattle.rules.proofs.Least.{holding-nil, holding-cons, holding-append, holding-up, holding-left, least-same, contradiction-same}
-use Rattle.rules.proofs.Total.{total-in, total-out, in-total, out-total}
 use Rattle.rules.proofs.Models.{model-closed, model-holding}
-use Rattle.rules.proofs.First.{first-same, try-in, try-out, try-none, above-pin, pin-above, pin-on, pin-none, leaf, first-above, none-at-all}
+use Rattle.rules.proofs.First.{try-in, try-out, try-none, branch-first, branch-none, branch-clash, leaf, first-above, none-at-all}
 use Rattle.rules.proofs.Closing.{Ending, closedAt, clash, closing, closing-right, undecided, undecided-falls, Right}
 use Rattle.rules.proofs.Opening.{few, opening, opening-right, Opened}
 
@@ -115,19 +114,6 @@ undecided-mono n m q f mp =
     step a z (inr (inl e)) = absurd (want-decided true (sym (f .keeps true a e) ∙ z))
     step a z (inr (inr e)) = absurd (want-decided false (sym (f .keeps false a e) ∙ z))
 
--- a set on a literal's side
-abbrev On : Bool → Set → ℕ → Type 0
-On true X a = T (X a)
-On false X a = T (outside X a)
-
-on-total : (n : ℕ) (s : Bool) (X : Set) (a : ℕ) → Within n a → On s X a → total n X a ≡ want s
-on-total n true X a w t = total-in X w t
-on-total n false X a w t = total-out X w t
-
-total-on : (n : ℕ) (s : Bool) (X : Set) (a : ℕ) → total n X a ≡ want s → On s X a
-total-on n true X a e = in-total n a X e
-total-on n false X a e = out-total n a X e
-
 module _ {sh : Sheet} (ok : Numbered sh) where
   abbrev n : ℕ
   n = sh .atoms
@@ -150,9 +136,6 @@ module _ {sh : Sheet} (ok : Numbered sh) where
     M = side n m
 
     module _ (a : ℕ) (low : Lowest n (side n m) a) where
-      abbrev Branch : Bool → Set → Type 0
-      Branch s X = Above sh M X × On s X a
-
       module _ (s : Bool) where
         abbrev p : Literal
         p = record { atom = a; sign = s }
@@ -160,10 +143,7 @@ module _ {sh : Sheet} (ok : Numbered sh) where
         abbrev g : List ℕ
         g = guess P n s m a
 
-        abbrev Asked : Map → Type 0
-        Asked X = (M ⊑ X) × Holding (p ∷ []) X
-
-        asked : (X : Map) → side n g ⊑ X → Asked X
+        asked : (X : Map) → side n g ⊑ X → Guess M a s X
         asked X f = (
           ⊑-trans (written-above n m a (low .within) long s (low .undecided)) f,
           holding-cons
@@ -174,20 +154,14 @@ module _ {sh : Sheet} (ok : Numbered sh) where
               (holding-nil X),
         )
 
-        answered : (X : Map) → Asked X → side n g ⊑ X
+        answered : (X : Map) → Guess M a s X → side n g ⊑ X
         answered X q = written-below n m a (low .within) long s X (q .0) (q .1 p (List·Memᴰ·head refl))
 
-        pass : (q : List ℕ) → Least P n Asked (side n q) → (f : Found) → FoundRight (Above sh (side n q)) f → FoundRight (Branch s) f
-        pass q l (model r) h =
-            first-same
-            (Above sh (side n q))
-            (Branch s)
-            (λ X u. (pin-above ok M p l X u, total-on n s X a (pin-on ok M p l X u)))
-            (λ X u. above-pin ok M p l X (u .0) (on-total n s X a (low .within) (u .1)))
-            h
-        pass q l noModel h = λ X u. h X (above-pin ok M p l X (u .0) (on-total n s X a (low .within) (u .1)))
+        pass : (q : List ℕ) → Least P n (Guess M a s) (side n q) → (f : Found) → FoundRight (Above sh (side n q)) f → FoundRight (Branch sh M a s) f
+        pass q l (model r) h = branch-first ok M a (low .within) s l h
+        pass q l noModel h = branch-none ok M a (low .within) s l h
 
-        branch : FoundRight (Branch s) (onClosed (closing P n (suc n) g) (λ q. searching P n k q))
+        branch : FoundRight (Branch sh M a s) (onClosed (closing P n (suc n) g) (λ q. searching P n k q))
         branch =
             step
             (closing P n (suc n) g)
@@ -201,9 +175,9 @@ module _ {sh : Sheet} (ok : Numbered sh) where
             (omega (arith, length-set m (a - 1) (want s), long))
             (omega (arith, few n (λ b. eqb (side n g b) 0))))
           where
-            step : (e : Ending) → Right P n g e → FoundRight (Branch s) (onClosed e (λ q. searching P n k q))
+            step : (e : Ending) → Right P n g e → FoundRight (Branch sh M a s) (onClosed e (λ q. searching P n k q))
             step (closedAt q) r =
-                let l : Least P n Asked (side n q) = least-same (λ X. side n g ⊑ X) Asked asked answered (r .0) in
+                let l : Least P n (Guess M a s) (side n q) = least-same (λ X. side n g ⊑ X) (Guess M a s) asked answered (r .0) in
                 pass
                 q
                 l
@@ -227,22 +201,14 @@ module _ {sh : Sheet} (ok : Numbered sh) where
                   less,
                 )))
             step clash r =
-                λ X u.
-                pin-none
-                ok
-                M
-                p
-                (contradiction-same (λ Y. side n g ⊑ Y) Asked answered r)
-                X
-                (u .0)
-                (on-total n s X a (low .within) (u .1))
+                branch-clash ok M a (low .within) s (contradiction-same (λ Y. side n g ⊑ Y) (Guess M a s) answered r)
 
-      otherwise : ((X : Set) → Branch true X → ⊥) → (f : Found) → FoundRight (Branch false) f → FoundRight (Above sh M) f
-      otherwise none (model r) h = try-out ok (x .isMap) low (λ X q t. none X (q, t)) h
-      otherwise none noModel h = try-none ok (x .isMap) low (λ X q t. none X (q, t)) (λ X q t. h X (q, t))
+      otherwise : ((X : Set) → Branch sh M a true X → ⊥) → (f : Found) → FoundRight (Branch sh M a false) f → FoundRight (Above sh M) f
+      otherwise none (model r) h = try-out ok (x .isMap) low none h
+      otherwise none noModel h = try-none ok (x .isMap) low none h
 
       both :
-          (f : Found) (f′ : ℕ → Found) → FoundRight (Branch true) f → FoundRight (Branch false) (f′ a)
+          (f : Found) (f′ : ℕ → Found) → FoundRight (Branch sh M a true) f → FoundRight (Branch sh M a false) (f′ a)
           → FoundRight (Above sh M) (orElse f f′ a)
       both (model r) f′ h h′ = try-in ok (x .isMap) low h
       both noModel f′ h h′ = otherwise h (f′ a) h′
