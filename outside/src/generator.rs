@@ -170,9 +170,12 @@ fn need(draw: &mut Draw, kind: Kind, positive: &[Literal], negative: &[Literal])
     }
 }
 
-/// Now and then a rule stands twice.
+/// In every other sheet some rules stand twice.
 fn repeat_some(draw: &mut Draw, rules: &mut Vec<Rule>) {
-    if !rules.is_empty() && draw.chance(1, 5) {
+    if rules.is_empty() || draw.chance(1, 2) {
+        return;
+    }
+    for _ in 0..draw.between(1, 1 + rules.len() / 3) {
         let again = rules[draw.below(rules.len())].clone();
         let place = draw.between(0, rules.len());
         rules.insert(place, again);

@@ -391,15 +391,15 @@ fn pin_walks(desk: &Desk, seed: u64) -> Outcome {
 
 /// What stands at a limit, just below and just above it.
 const LIMITS: [fn(&Desk) -> Outcome; 9] = [
-    sheet_length,
-    atom_count,
+    wide_numbers,
+    map_length,
     rule_count,
+    atom_count,
     weight_and_bound,
     widest_margins,
     longest_bodies,
-    map_length,
-    wide_numbers,
     longest_chain,
+    sheet_length,
 ];
 
 fn limits(desk: &Desk, seed: u64) -> Outcome {
