@@ -95,10 +95,21 @@ impl Desk {
     }
 
     fn call_on(&self, call: Call, sheet: &Guarded, map: &mut Guarded) -> u64 {
-        let (s, s_len) = (sheet.first(), sheet.length);
-        let (m, m_len) = (map.first_mut(), map.length);
         // SAFETY: both pointers are to the first of so many bytes that live
         // and are not used otherwise until the call is over.
+        unsafe { self.call_at(call, (sheet.first(), sheet.length), (map.first_mut(), map.length)) }
+    }
+
+    /// Makes a call on the lent bytes themselves and hands back its code.
+    pub fn call_bare(&self, call: Call, sheet: &[u8], map: &mut [u8]) -> u64 {
+        // SAFETY: both slices are lent to us for the call.
+        unsafe { self.call_at(call, (sheet.as_ptr(), sheet.len()), (map.as_mut_ptr(), map.len())) }
+    }
+
+    /// # Safety
+    /// Both pointers are to so many bytes that live and are not used
+    /// otherwise until the call is over.
+    unsafe fn call_at(&self, call: Call, (s, s_len): (*const u8, usize), (m, m_len): (*mut u8, usize)) -> u64 {
         unsafe {
             match call {
                 Call::Check => (self.check)(s, s_len),
