@@ -2,7 +2,7 @@
  * Calls the archive from C on "1 if not 2; 2 if not 1" and prints the coded
  * answers. Ends with 0 if they are as they should be.
  *
- *   cc -I include outside/c/smoke.c target/staticlib/libarchive.a -o target/smoke && target/smoke
+ * outside/c/smoke.sh builds and runs it.
  */
 #include "archive.h"
 

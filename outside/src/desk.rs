@@ -82,8 +82,9 @@ impl Desk {
     /// Makes a call on copies of the sheet and the map that stand between
     /// guard bytes.
     pub fn call(&self, call: Call, sheet: &[u8], map: &[u8]) -> Result<After, Trespass> {
-        let sheet_buffer = Guarded::new(sheet);
-        let mut map_buffer = Guarded::new(map);
+        let sheet_guard = if sheet.len().is_multiple_of(2) { HIGH_GUARD } else { LOW_GUARD };
+        let sheet_buffer = Guarded::new(sheet, sheet_guard);
+        let mut map_buffer = Guarded::new(map, HIGH_GUARD);
         let code = self.call_on(call, &sheet_buffer, &mut map_buffer);
         if !sheet_buffer.is_intact() || sheet_buffer.content() != sheet {
             return Err(Trespass("the sheet or a byte beside it was changed"));
@@ -124,44 +125,58 @@ impl Desk {
     }
 }
 
+/// The guard bytes that stand on each side of a buffer.
+type Guard = [u8; 64];
+
+/// Bytes that no map holds, and that never end a number of a sheet.
+const HIGH_GUARD: Guard = {
+    let mut guard = [0xa0; 64];
+    let mut index = 0;
+    while index < guard.len() {
+        guard[index] += index as u8;
+        index += 1;
+    }
+    guard
+};
+
+/// Small numbers, with which a sheet that is read past its end goes on.
+const LOW_GUARD: Guard = {
+    let mut guard = [0; 64];
+    guard[7] = 1;
+    guard[11] = 2;
+    guard
+};
+
 /// Bytes with guard bytes on both sides.
 struct Guarded {
     bytes: Vec<u8>,
     length: usize,
+    guard: Guard,
 }
 
-/// How many guard bytes stand on each side.
-const GUARDS: usize = 64;
-
 impl Guarded {
-    fn new(content: &[u8]) -> Guarded {
-        let guard = Guarded::guard();
-        Guarded { bytes: [&guard, content, &guard].concat(), length: content.len() }
-    }
-
-    /// Bytes that no map holds, no two neighbours alike.
-    fn guard() -> [u8; GUARDS] {
-        std::array::from_fn(|index| 0xa0 + (index % 64) as u8)
+    fn new(content: &[u8], guard: Guard) -> Guarded {
+        Guarded { bytes: [&guard, content, &guard].concat(), length: content.len(), guard }
     }
 
     fn first(&self) -> *const u8 {
-        self.bytes[GUARDS..].as_ptr()
+        self.bytes[self.guard.len()..].as_ptr()
     }
 
     fn first_mut(&mut self) -> *mut u8 {
         // From the whole buffer, so that a write beside the content is a
         // change we can see and not one the compiler may assume away.
         let whole = self.bytes.as_mut_ptr();
-        // SAFETY: the buffer has at least GUARDS bytes.
-        unsafe { whole.add(GUARDS) }
+        // SAFETY: the buffer begins with the guard.
+        unsafe { whole.add(self.guard.len()) }
     }
 
     fn content(&self) -> &[u8] {
-        &self.bytes[GUARDS..GUARDS + self.length]
+        &self.bytes[self.guard.len()..self.guard.len() + self.length]
     }
 
     fn is_intact(&self) -> bool {
-        self.bytes[..GUARDS] == Guarded::guard() && self.bytes[GUARDS + self.length..] == Guarded::guard()
+        self.bytes.starts_with(&self.guard) && self.bytes[self.guard.len() + self.length..] == self.guard
     }
 }
 

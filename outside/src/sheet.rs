@@ -1,5 +1,7 @@
 //! A sheet as a record, and the bytes that say it.
 
+use std::fmt;
+
 /// The most atoms a sheet may have.
 pub const MOST_ATOMS: usize = 512;
 /// The most rules a sheet may have.
@@ -94,6 +96,23 @@ impl Sheet {
     /// limit gives bytes that a reader refuses.
     pub fn bytes(&self) -> Vec<u8> {
         bytes_of(&self.numbers())
+    }
+}
+
+/// One rule a line, for messages.
+impl fmt::Display for Sheet {
+    fn fmt(&self, to: &mut fmt::Formatter<'_>) -> fmt::Result {
+        writeln!(to, "{} atoms, in {:?}, out {:?}", self.atoms, self.compute_in, self.compute_out)?;
+        self.rules.iter().enumerate().try_for_each(|(index, rule)| writeln!(to, "{:4}: {rule}", index + 1))
+    }
+}
+
+impl fmt::Display for Rule {
+    fn fmt(&self, to: &mut fmt::Formatter<'_>) -> fmt::Result {
+        let literal = |sign: &str, literal: &Literal| format!("{sign}{}={}", literal.atom, literal.weight);
+        let positive = self.positive.iter().map(|one| literal("", one));
+        let body = positive.chain(self.negative.iter().map(|one| literal("not ", one))).collect::<Vec<_>>();
+        write!(to, "{:?} {:?} if {} of {{{}}}", self.kind, self.heads, self.need, body.join(", "))
     }
 }
 

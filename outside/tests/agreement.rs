@@ -3,15 +3,25 @@
 
 use outside::agreement::{SUITES, hold};
 use outside::desk::Desk;
+use std::thread;
 use std::time::Instant;
 
-fn hold_suite(name: &str) {
+/// As much stack as the first thread of a program has on most machines.
+const STACK: usize = 8 << 20;
+
+fn hold_suite(name: &'static str) {
+    let held = thread::Builder::new().stack_size(STACK).spawn(move || held_on_this_thread(name));
+    if let Err(message) = held.expect("a thread can be had").join().expect("the thread ends well") {
+        panic!("{message}");
+    }
+}
+
+fn held_on_this_thread(name: &str) -> Result<(), String> {
     let suite = SUITES.iter().find(|suite| suite.name == name).expect("a suite has this name");
     let start = Instant::now();
-    match hold(&Desk::SUBJECT, suite) {
-        Ok(seeds) => println!("{}: {name}: {seeds} seeds in {:.1?}", Desk::SUBJECT.name, start.elapsed()),
-        Err(found) => panic!("{found}"),
-    }
+    let seeds = hold(&Desk::SUBJECT, suite).map_err(|found| found.to_string())?;
+    println!("{}: {name}: {seeds} seeds in {:.1?}", Desk::SUBJECT.name, start.elapsed());
+    Ok(())
 }
 
 macro_rules! suite_tests {

@@ -33,6 +33,7 @@ fn wrong_desks() -> Vec<Wrong> {
         wrong("places 1 at the last byte", &["short strings", "damaged", "any bytes"], &|desk| {
             desk.check = check_misplaced;
         }),
+        wrong("reads past the end", &["damaged", "any bytes", "short strings"], &|desk| desk.check = check_beyond),
         wrong("writes on a refusal", &["short strings", "damaged", "limits"], &|desk| desk.open = open_and_clear),
         wrong("always none", &["well formed", "large", "limits", "subsets"], &|desk| desk.solve = solve_none),
         wrong("last model first", &["well formed", "subsets"], &|desk| desk.solve = solve_last),
@@ -165,6 +166,15 @@ unsafe extern "C" fn check_length_last(s: *const u8, s_len: usize) -> u64 {
 unsafe extern "C" fn check_misplaced(s: *const u8, s_len: usize) -> u64 {
     let code = plain::desk_check(unsafe { lent(s, s_len) });
     if code >> 40 == 1 && s_len > 0 { code - 1 } else { code }
+}
+
+/// Takes the eight bytes after the sheet for a part of it.
+unsafe extern "C" fn check_beyond(s: *const u8, s_len: usize) -> u64 {
+    match plain::desk_check(unsafe { lent(s, s_len) }) {
+        // SAFETY: the caller keeps guard bytes there to see this.
+        code if code >> 40 == 1 => plain::desk_check(unsafe { lent(s, s_len + 8) }),
+        code => code,
+    }
 }
 
 unsafe extern "C" fn open_and_clear(s: *const u8, s_len: usize, map: *mut u8, map_len: usize) -> u64 {

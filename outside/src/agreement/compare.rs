@@ -1,11 +1,13 @@
 //! One call, made on a desk and compared.
 
 use crate::answer::{Answer, in_words};
-use crate::definition;
 use crate::desk::{After, Call, Desk};
 use crate::plain::reader::read_sheet;
 use crate::plain::search::first_model_within;
 use std::fmt;
+
+/// Sheets with more rules are printed as bytes only.
+const MOST_RULES_IN_WORDS: usize = 40;
 
 /// What two desks disagree on. The message names everything that is needed
 /// to see it again.
@@ -60,7 +62,11 @@ impl Table<'_> {
     /// A disagreement about a call on this table.
     pub fn disagreement(&self, call: Call, map: &[u8], what: &str) -> Disagreement {
         let desk = self.desk.name;
-        let what = format!("{desk}: {call:?}\n{what}\nsheet  {}\nmap    {}", hex(self.sheet), hex(map));
+        let rules = match read_sheet(self.sheet) {
+            Ok(sheet) if sheet.rules.len() <= MOST_RULES_IN_WORDS => format!("\n{sheet}"),
+            _ => String::new(),
+        };
+        let what = format!("{desk}: {call:?}\n{what}\nsheet  {}\nmap    {}{rules}", hex(self.sheet), hex(map));
         Disagreement { what }
     }
 
@@ -81,11 +87,6 @@ impl Table<'_> {
         let Ok(sheet) = read_sheet(self.sheet) else { return true };
         let trials = 20 + 400_000 / sheet.size() as u64;
         first_model_within(&sheet, trials).is_ok()
-    }
-
-    /// The stable models of a small sheet as maps, in order.
-    pub fn models(sheet: &crate::sheet::Sheet) -> Vec<Vec<u8>> {
-        definition::models(sheet).into_iter().map(|set| definition::map_of(set, sheet.atoms)).collect()
     }
 }
 

@@ -3,6 +3,8 @@
 //! By default a suite runs a fixed number of seeds, so that every run makes
 //! the same calls. `OUTSIDE_SECONDS=n` lets each suite go on with further
 //! seeds until it has run for n seconds. `OUTSIDE_SEED=n` runs one seed.
+//! `OUTSIDE_TRACE=1` prints each seed before it is run, which finds the seed
+//! that ends the whole process.
 
 use super::{Disagreement, Suite};
 use crate::desk::Desk;
@@ -29,7 +31,11 @@ pub fn hold(desk: &Desk, suite: &Suite) -> Result<u64, Disagreement> {
 /// handed back with the suite and the seed before it.
 pub fn hold_seeds(desk: &Desk, suite: &Suite, seeds: std::ops::Range<u64>) -> Result<u64, Disagreement> {
     let count = seeds.end - seeds.start;
+    let trace = asked("OUTSIDE_TRACE").is_some();
     for seed in seeds {
+        if trace {
+            eprintln!("suite {}, seed {seed}", suite.name);
+        }
         (suite.run)(desk, seed).map_err(|found| Disagreement {
             what: format!("suite {}, seed {seed} (OUTSIDE_SEED={seed} runs it alone)\n{found}", suite.name),
         })?;

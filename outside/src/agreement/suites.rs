@@ -28,15 +28,15 @@ pub type Outcome = Result<(), Disagreement>;
 /// All suites.
 pub const SUITES: [Suite; 10] = [
     Suite { name: "short strings", seeds: 256, is_complete: true, run: short_strings },
-    Suite { name: "any bytes", seeds: 20_000, is_complete: false, run: any_bytes },
-    Suite { name: "well formed", seeds: 12_000, is_complete: false, run: well_formed },
-    Suite { name: "damaged", seeds: 12_000, is_complete: false, run: damaged },
-    Suite { name: "large", seeds: 60, is_complete: false, run: large },
+    Suite { name: "any bytes", seeds: 60_000, is_complete: false, run: any_bytes },
+    Suite { name: "well formed", seeds: 30_000, is_complete: false, run: well_formed },
+    Suite { name: "damaged", seeds: 40_000, is_complete: false, run: damaged },
+    Suite { name: "large", seeds: 120, is_complete: false, run: large },
     Suite { name: "limits", seeds: LIMITS.len() as u64, is_complete: true, run: limits },
-    Suite { name: "subsets", seeds: 1_500, is_complete: false, run: subsets },
-    Suite { name: "closed maps", seeds: 700, is_complete: false, run: closed_maps },
-    Suite { name: "shuffled", seeds: 3_000, is_complete: false, run: shuffled },
-    Suite { name: "pin walks", seeds: 3_000, is_complete: false, run: pin_walks },
+    Suite { name: "subsets", seeds: 5_000, is_complete: false, run: subsets },
+    Suite { name: "closed maps", seeds: 5_000, is_complete: false, run: closed_maps },
+    Suite { name: "shuffled", seeds: 12_000, is_complete: false, run: shuffled },
+    Suite { name: "pin walks", seeds: 12_000, is_complete: false, run: pin_walks },
 ];
 
 /// All byte strings of length up to 2 and many of length 3 (all that begin
@@ -90,7 +90,7 @@ fn well_formed(desk: &Desk, seed: u64) -> Outcome {
     let size = generator::size(&mut draw);
     let sheet = generator::sheet(&mut draw, size);
     calls_on(desk, &mut draw, &sheet.bytes())?;
-    every_part(desk, &sheet, &mut draw)
+    if seed.is_multiple_of(4) { every_part(desk, &sheet, &mut draw) } else { Ok(()) }
 }
 
 /// Sheets with damages.
@@ -200,14 +200,19 @@ fn part_values(table: &Table, rule: u64, part: u64, values: &Values) -> Outcome 
 /// lose none of them.
 fn subsets(desk: &Desk, seed: u64) -> Outcome {
     let mut draw = Draw::new("subsets", seed);
-    let atoms = if seed.is_multiple_of(25) { definition::MOST_ATOMS_FOR_SUBSETS } else { 8 };
+    let atoms = if seed.is_multiple_of(5) { definition::MOST_ATOMS_FOR_SUBSETS } else { 8 };
     let sheet = generator::sheet(&mut draw, Size { atoms, rules: 2 * atoms, body: 3 });
     let bytes = sheet.bytes();
     let table = Table { desk, sheet: &bytes };
-    let models = Table::models(&sheet);
+    let models = models_as_maps(&sheet);
     solve_is_first(&table, &models, sheet.atoms)?;
     test_is_membership(&table, &models, sheet.atoms)?;
     forcing_keeps_models(&table, &models, sheet.atoms, &mut draw)
+}
+
+/// The agreeing stable models of a small sheet as maps, in order.
+fn models_as_maps(sheet: &Sheet) -> Vec<Vec<u8>> {
+    definition::models(sheet).into_iter().map(|set| definition::map_of(set, sheet.atoms)).collect()
 }
 
 fn solve_is_first(table: &Table, models: &[Vec<u8>], atoms: usize) -> Outcome {
@@ -219,9 +224,11 @@ fn solve_is_first(table: &Table, models: &[Vec<u8>], atoms: usize) -> Outcome {
 }
 
 fn test_is_membership(table: &Table, models: &[Vec<u8>], atoms: usize) -> Outcome {
+    let mut left = models.iter().peekable();
     for set in definition::subsets_in_order(atoms) {
         let map = definition::map_of(set, atoms);
-        let answer = if models.contains(&map) { Answer::Yes } else { Answer::No };
+        let is_model = left.next_if(|model| **model == map).is_some();
+        let answer = if is_model { Answer::Yes } else { Answer::No };
         table.answers(Call::Test, &map, &After { code: answer.code(), map: map.clone() })?;
     }
     Ok(())

@@ -20,9 +20,14 @@ use std::{env, fs, io};
 const BEGIN: &str = "<!-- measures begin: written by outside/src/bin/measure.rs -->";
 const END: &str = "<!-- measures end -->";
 
-/// A call is repeated until it has taken this long, and at least three
-/// times where one takes less.
-const LONG_ENOUGH: Duration = Duration::from_millis(300);
+/// The desks take turns until so many turns are over and so long a time is
+/// spent. Of each desk's times the least counts.
+const TURNS: usize = 3;
+const LONG_ENOUGH: Duration = Duration::from_millis(500);
+
+/// Up to this ratio a time is not called slower: two runs of one program
+/// differ by as much.
+const SAME: f64 = 1.05;
 
 fn main() -> ExitCode {
     if cfg!(debug_assertions) {
@@ -114,37 +119,49 @@ fn longest_problem() -> Problem {
 fn measured(problem: &Problem) -> Row {
     eprintln!("{:?}: {}", problem.call, problem.name);
     let bytes = problem.sheet.bytes();
-    let (plain, code, map) = timed(&Desk::PLAIN, problem.call, &bytes, problem.sheet.atoms);
-    let ours = (Desk::SUBJECT.name != Desk::PLAIN.name).then(|| {
-        let (ours, our_code, our_map) = timed(&Desk::SUBJECT, problem.call, &bytes, problem.sheet.atoms);
-        assert_eq!((our_code, our_map), (code, map), "both answer alike on {}", problem.name);
-        ours
-    });
+    let linked = Desk::SUBJECT.name != Desk::PLAIN.name;
+    let mut plain = Timed::first(&Desk::PLAIN, problem, &bytes);
+    let mut ours = linked.then(|| Timed::first(&Desk::SUBJECT, problem, &bytes));
+    let start = Instant::now();
+    for turn in 1.. {
+        if turn >= TURNS && start.elapsed() >= LONG_ENOUGH {
+            break;
+        }
+        plain.again(&Desk::PLAIN, problem, &bytes);
+        if let Some(ours) = &mut ours {
+            ours.again(&Desk::SUBJECT, problem, &bytes);
+            assert_eq!((ours.code, &ours.map), (plain.code, &plain.map), "both answer alike on {}", problem.name);
+        }
+    }
     Row {
         name: problem.name.clone(),
         call: problem.call,
         atoms: problem.sheet.atoms,
         rules: problem.sheet.rules.len(),
-        answer: Answer::of_code(code).expect("plain answers"),
-        ours,
-        plain,
+        answer: Answer::of_code(plain.code).expect("plain answers"),
+        ours: ours.map(|ours| ours.least),
+        plain: plain.least,
     }
 }
 
-/// The middle time of the runs, the code, and the map after the call.
-fn timed(desk: &Desk, call: Call, sheet: &[u8], atoms: usize) -> (Duration, u64, Vec<u8>) {
-    let mut times = Vec::new();
-    let mut map = vec![0; atoms];
-    let start = Instant::now();
-    loop {
-        let before = Instant::now();
-        let code = desk.call_bare(call, sheet, &mut map);
-        times.push(before.elapsed());
-        let spent = start.elapsed();
-        if spent >= LONG_ENOUGH && (times.len() >= 3 || times[0] >= LONG_ENOUGH) {
-            times.sort_unstable();
-            return (times[times.len() / 2], code, map);
-        }
+/// The least time of a desk so far, its answer, and the map after it.
+struct Timed {
+    least: Duration,
+    code: u64,
+    map: Vec<u8>,
+}
+
+impl Timed {
+    fn first(desk: &Desk, problem: &Problem, bytes: &[u8]) -> Timed {
+        let mut timed = Timed { least: Duration::MAX, code: 0, map: vec![0; problem.sheet.atoms] };
+        timed.again(desk, problem, bytes);
+        timed
+    }
+
+    fn again(&mut self, desk: &Desk, problem: &Problem, bytes: &[u8]) {
+        let start = Instant::now();
+        self.code = desk.call_bare(problem.call, bytes, &mut self.map);
+        self.least = self.least.min(start.elapsed());
     }
 }
 
@@ -183,7 +200,7 @@ fn ratio(ours: Duration, plain: Duration) -> f64 {
 }
 
 fn verdict(rows: &[Row]) -> String {
-    let slower = |row: &&Row| row.ours.is_some_and(|ours| ours > row.plain);
+    let slower = |row: &&Row| row.ours.is_some_and(|ours| ratio(ours, row.plain) > SAME);
     let names = rows.iter().filter(slower).map(|row| format!("{:?} of {}", row.call, row.name)).collect::<Vec<_>>();
     match rows.iter().any(|row| row.ours.is_some()) {
         false => "The archive is not linked; only the plain solver was timed.".to_string(),
