@@ -3,7 +3,7 @@
 
 use crate::draw::Draw;
 use crate::sheet::{
-    Kind, Literal, MOST_ATOMS, MOST_BYTES, MOST_NUMBER, MOST_RULES, MOST_WEIGHT, Rule, Sheet, basic, bytes_of,
+    Kind, Literal, MOST_ATOMS, MOST_BYTES, MOST_NUMBER, MOST_RULES, MOST_WEIGHT, Rule, Sheet, basic, bytes_of, choice,
     number_bytes,
 };
 
@@ -34,6 +34,9 @@ pub fn sheet(draw: &mut Draw, size: Size) -> Sheet {
     let mut rules = Vec::with_capacity(count);
     for _ in 0..count {
         rules.push(rule(draw, atoms, size.body, style));
+    }
+    if style.free && count > 0 {
+        rules[0] = free_atoms(draw, atoms);
     }
     repeat_some(draw, &mut rules);
     Sheet { atoms, rules, compute_in: compute_list(draw, atoms), compute_out: compute_list(draw, atoms) }
@@ -96,14 +99,22 @@ pub fn sheet_of_length(draw: &mut Draw, length: usize) -> Sheet {
 struct Style {
     most_weight: u32,
     kinds: [Kind; 4],
+    /// Whether the first rule leaves some atoms free and other bodies are
+    /// not empty, so that less is decided at once.
+    free: bool,
 }
 
 impl Style {
     fn drawn(draw: &mut Draw) -> Style {
         let most_weight = draw.pick(&[1, 2, 4, 4, 9, MOST_WEIGHT]);
         let kinds = if draw.chance(1, 4) { [Kind::Basic, Kind::Basic, Kind::Basic, Kind::Choice] } else { Kind::ALL };
-        Style { most_weight, kinds }
+        Style { most_weight, kinds, free: draw.chance(2, 3) }
     }
+}
+
+fn free_atoms(draw: &mut Draw, atoms: usize) -> Rule {
+    let count = draw.between(1, atoms);
+    choice(&draw.subset(count, atoms), &[], &[])
 }
 
 fn rule(draw: &mut Draw, atoms: usize, body: usize, style: Style) -> Rule {
@@ -116,8 +127,9 @@ fn rule(draw: &mut Draw, atoms: usize, body: usize, style: Style) -> Rule {
         }
         Kind::Basic | Kind::Constraint | Kind::Weight => vec![draw.between(1, atoms)],
     };
-    let positive = literals(draw, atoms, body, kind, style);
-    let negative = literals(draw, atoms, body, kind, style);
+    let positive = literals(draw, 0, atoms, body, kind, style);
+    let least = usize::from(style.free && positive.is_empty());
+    let negative = literals(draw, least, atoms, body, kind, style);
     let need = need(draw, kind, &positive, &negative);
     Rule { kind, heads, need, positive, negative }
 }
@@ -139,9 +151,9 @@ fn rule_upwards(draw: &mut Draw, atoms: usize, body: usize) -> Rule {
     if draw.chance(1, 3) { Rule { kind: Kind::Choice, ..rule } } else { rule }
 }
 
-fn literals(draw: &mut Draw, atoms: usize, body: usize, kind: Kind, style: Style) -> Vec<Literal> {
+fn literals(draw: &mut Draw, least: usize, atoms: usize, body: usize, kind: Kind, style: Style) -> Vec<Literal> {
     let most = if draw.chance(1, 30) { atoms } else { body.min(atoms) };
-    let count = draw.between(0, most);
+    let count = draw.between(least, most);
     let atoms = draw.subset(count, atoms);
     atoms.into_iter().map(|atom| Literal { atom, weight: weight(draw, kind, style) }).collect()
 }
@@ -162,10 +174,10 @@ fn need(draw: &mut Draw, kind: Kind, positive: &[Literal], negative: &[Literal])
         Kind::Constraint | Kind::Weight => match draw.below(30) {
             0 => draw.between(0, MOST_NUMBER as usize) as u32,
             1 => MOST_NUMBER,
-            2..=3 => 0,
-            4..=7 => whole.min(MOST_NUMBER),
+            2 => 0,
+            3..=7 => whole.min(MOST_NUMBER),
             8 => (whole + 1).min(MOST_NUMBER),
-            _ => draw.between(0, (whole as usize + 1).min(MOST_NUMBER as usize)) as u32,
+            _ => draw.between(1, (whole as usize + 1).min(MOST_NUMBER as usize)) as u32,
         },
     }
 }

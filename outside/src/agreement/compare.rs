@@ -85,7 +85,7 @@ impl Table<'_> {
     /// Whether a search on this sheet is short enough for a test.
     pub fn solves_soon(&self) -> bool {
         let Ok(sheet) = read_sheet(self.sheet) else { return true };
-        let trials = 20 + 400_000 / sheet.size() as u64;
+        let trials = 600 + 400_000 / sheet.size() as u64;
         first_model_within(&sheet, trials).is_ok()
     }
 }

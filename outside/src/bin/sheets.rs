@@ -70,7 +70,7 @@ fn drawn(seed: u64) -> Sheet {
         Size { atoms: 5, rules: 10, body: 2 },
         Size { atoms: 9, rules: 20, body: 3 },
         Size { atoms: 14, rules: 30, body: 3 },
-        Size { atoms: 24, rules: 70, body: 3 },
+        Size { atoms: 15, rules: 60, body: 3 },
     ]);
     generator::sheet(&mut draw, size)
 }
