@@ -90,3 +90,23 @@ fn solve_line(bytes: &[u8]) -> String {
 fn refused_line(refusal: Refusal) -> String {
     format!("REFUSED {} {}", refusal.number, refusal.place)
 }
+
+#[cfg(test)]
+mod tests {
+    use super::*;
+    use outside::sheet::basic;
+
+    fn line_of(rules: Vec<outside::sheet::Rule>) -> String {
+        solve_line(&Sheet { atoms: 2, rules, ..Sheet::default() }.bytes())
+    }
+
+    #[test]
+    fn the_line_is_as_in_the_paper() {
+        let fourth = [1, 2, 2, 1, 1, 0, 1, 2, 1, 2, 0, 1, 1, 0, 0];
+        assert_eq!(solve_line(&fourth), "MODEL 1");
+        assert_eq!(line_of(vec![basic(1, &[1], &[])]), "MODEL");
+        assert_eq!(line_of(vec![basic(1, &[], &[]), basic(2, &[], &[])]), "MODEL 1 2");
+        assert_eq!(line_of(vec![basic(1, &[], &[1])]), "NONE");
+        assert_eq!(solve_line(&[1, 2]), "REFUSED 1 2");
+    }
+}
