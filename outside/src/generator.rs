@@ -305,10 +305,11 @@ fn fill_but_one(draw: &mut Draw, bytes: &mut [u8]) {
 pub fn number(draw: &mut Draw, most: usize) -> u64 {
     let most = most as u64;
     let near = draw.any() % (most + 2);
+    let any = draw.any();
     match draw.below(12) {
         0 => draw.pick(&[0, most, most + 1, 512, 513, 2048, 2049]),
         1 => draw.pick(&[1 << 8, 1 << 16, 1 << 32, 1 << 40, 1 << 63]) + near,
-        2 => draw.pick(&[u64::MAX, draw.clone().any(), u64::from(u32::MAX)]),
+        2 => draw.pick(&[u64::MAX, any, u64::from(u32::MAX)]),
         _ => near,
     }
 }
