@@ -1,0 +1,104 @@
+//! Every call on all kinds of bytes, against the plain solver.
+
+use super::Outcome;
+use super::parts::every_part;
+use crate::agreement::compare::Table;
+use crate::desk::{Call, Desk};
+use crate::draw::Draw;
+use crate::generator;
+use crate::plain::reader::read_sheet;
+
+/// All byte strings of length up to 2 and many of length 3 (all that begin
+/// with the edition); the seed is the first byte.
+pub fn short_strings(desk: &Desk, seed: u64) -> Outcome {
+    let first = seed as u8;
+    if first == 0 {
+        every_call_once(desk, &[])?;
+    }
+    every_call_once(desk, &[first])?;
+    for second in 0..=255 {
+        every_call_once(desk, &[first, second])?;
+    }
+    let step = if first == 1 { 1 } else { 97 };
+    for rest in (0..=u16::MAX).step_by(step) {
+        let [second, third] = rest.to_be_bytes();
+        every_call_once(desk, &[first, second, third])?;
+    }
+    Ok(())
+}
+
+/// Each call once on a sheet, with a map that must stay as it is where the
+/// sheet is refused.
+fn every_call_once(desk: &Desk, sheet: &[u8]) -> Outcome {
+    let table = Table { desk, sheet };
+    let map = [0, 1, 2, 3, 9];
+    for call in [
+        Call::Check,
+        Call::Open,
+        Call::Pin { atom: 1, side: 1 },
+        Call::Solve,
+        Call::Test,
+        Call::Margin { rule: 1 },
+        Call::Rule { rule: 1, part: 0, index: 0 },
+    ] {
+        table.same(call, &map)?;
+    }
+    Ok(())
+}
+
+/// Strings of any bytes with a likely start.
+pub fn any_bytes(desk: &Desk, seed: u64) -> Outcome {
+    let mut draw = Draw::new("any bytes", seed);
+    let sheet = generator::any_bytes(&mut draw);
+    calls_on(desk, &mut draw, &sheet)
+}
+
+/// Well-formed sheets of every kind with any maps and any numbers.
+pub fn well_formed(desk: &Desk, seed: u64) -> Outcome {
+    let mut draw = Draw::new("well formed", seed);
+    let size = generator::size(&mut draw);
+    let sheet = generator::sheet(&mut draw, size);
+    calls_on(desk, &mut draw, &sheet.bytes())?;
+    if seed.is_multiple_of(4) { every_part(desk, &sheet, &mut draw) } else { Ok(()) }
+}
+
+/// Sheets with damages.
+pub fn damaged(desk: &Desk, seed: u64) -> Outcome {
+    let mut draw = Draw::new("damaged", seed);
+    let size = generator::size(&mut draw);
+    let sheet = generator::sheet(&mut draw, size);
+    let bytes = generator::damaged(&mut draw, &sheet);
+    calls_on(desk, &mut draw, &bytes)
+}
+
+/// Sheets near the limits.
+pub fn large(desk: &Desk, seed: u64) -> Outcome {
+    let mut draw = Draw::new("large", seed);
+    let sheet = generator::large_sheet(&mut draw);
+    calls_on(desk, &mut draw, &sheet.bytes())?;
+    let bytes = generator::damaged(&mut draw, &sheet);
+    Table { desk, sheet: &bytes }.same(Call::Check, &[]).map(drop)
+}
+
+/// Every call on one sheet: with a drawn map, and with the maps that open
+/// and solve leave.
+fn calls_on(desk: &Desk, draw: &mut Draw, sheet: &[u8]) -> Outcome {
+    let table = Table { desk, sheet };
+    let (atoms, rules) = read_sheet(sheet).map_or((3, 2), |sheet| (sheet.atoms, sheet.rules.len()));
+    let map = generator::map(draw, atoms);
+    table.same(Call::Check, &map)?;
+    let opened = table.same(Call::Open, &map)?;
+    let mut maps = vec![map.clone(), generator::map(draw, atoms), opened.map];
+    if table.solves_soon() {
+        let solved = table.same(Call::Solve, &map)?;
+        maps.push(solved.map);
+    }
+    for map in &maps {
+        table.same(Call::Test, map)?;
+        table.same(Call::Margin { rule: generator::number(draw, rules) }, map)?;
+        table.same(Call::Pin { atom: generator::atom(draw, atoms), side: generator::side(draw) }, map)?;
+        let (rule, part) = (generator::number(draw, rules), generator::number(draw, 10));
+        table.same(Call::Rule { rule, part, index: generator::number(draw, 4) }, map)?;
+    }
+    Ok(())
+}

@@ -1,0 +1,183 @@
+//! Sheets, maps and numbers at the limits.
+
+use super::Outcome;
+use crate::agreement::compare::Table;
+use crate::answer::Answer;
+use crate::desk::{After, Call, Desk};
+use crate::draw::Draw;
+use crate::generator;
+use crate::sheet::{
+    Kind, Literal, MOST_ATOMS, MOST_BYTES, MOST_NUMBER, MOST_RULES, MOST_WEIGHT, Rule, Sheet, basic, bytes_of, choice,
+};
+
+/// What stands at a limit, just below and just above it.
+pub const LIMITS: [fn(&Desk) -> Outcome; 9] = [
+    wide_numbers,
+    map_length,
+    rule_count,
+    atom_count,
+    weight_and_bound,
+    widest_margins,
+    longest_bodies,
+    longest_chain,
+    sheet_length,
+];
+
+/// The limit with the seed as its index.
+pub fn limits(desk: &Desk, seed: u64) -> Outcome {
+    match LIMITS.get(seed as usize) {
+        Some(limit) => limit(desk),
+        None => Ok(()),
+    }
+}
+
+/// Every call on a sheet with an unread map of the longest length.
+fn on_long_map(desk: &Desk, sheet: &[u8]) -> Outcome {
+    let table = Table { desk, sheet };
+    for call in [Call::Check, Call::Open, Call::Solve, Call::Test, Call::Margin { rule: 1 }] {
+        table.same(call, &[1; MOST_ATOMS])?;
+    }
+    table.same(Call::Pin { atom: MOST_ATOMS as u64, side: 2 }, &[0; MOST_ATOMS])?;
+    table.same(Call::Rule { rule: 1, part: 1, index: 0 }, &[])?;
+    Ok(())
+}
+
+fn sheet_length(desk: &Desk) -> Outcome {
+    let mut draw = Draw::new("sheet length", 0);
+    for length in [MOST_BYTES - 1, MOST_BYTES] {
+        on_long_map(desk, &generator::sheet_of_length(&mut draw, length).bytes())?;
+    }
+    let mut longer = generator::sheet_of_length(&mut draw, MOST_BYTES).bytes();
+    longer.push(0);
+    on_long_map(desk, &longer)?;
+    for byte in [0, 1, 0x80, 0xff] {
+        for length in [MOST_BYTES, MOST_BYTES + 1, 2 * MOST_BYTES] {
+            on_long_map(desk, &vec![byte; length])?;
+        }
+    }
+    Ok(())
+}
+
+fn atom_count(desk: &Desk) -> Outcome {
+    for atoms in [0, 1, 127, 128, 511, 512, 513, 640, 16_384] {
+        let rules = if atoms == 0 { vec![] } else { vec![choice(&[atoms], &[], &[])] };
+        on_long_map(desk, &Sheet { atoms, rules, ..Sheet::default() }.bytes())?;
+    }
+    Ok(())
+}
+
+fn rule_count(desk: &Desk) -> Outcome {
+    for rules in [MOST_RULES - 1, MOST_RULES, MOST_RULES + 1] {
+        let rules = vec![basic(1, &[], &[]); rules];
+        let sheet = Sheet { atoms: 1, rules, ..Sheet::default() }.bytes();
+        on_long_map(desk, &sheet)?;
+        for rule in [0, 2047, 2048, 2049] {
+            Table { desk, sheet: &sheet }.same(Call::Margin { rule }, &[0])?;
+            Table { desk, sheet: &sheet }.same(Call::Rule { rule, part: 3, index: 0 }, &[])?;
+        }
+    }
+    Ok(())
+}
+
+fn weight_and_bound(desk: &Desk) -> Outcome {
+    for weight in [0, 1, 127, 128, MOST_WEIGHT - 1, MOST_WEIGHT, MOST_WEIGHT + 1, MOST_NUMBER] {
+        for bound in [0, 1, MOST_WEIGHT, 2 * MOST_WEIGHT, MOST_NUMBER - 1, MOST_NUMBER] {
+            let literal = vec![Literal { atom: 1, weight }];
+            let rule =
+                Rule { kind: Kind::Weight, heads: vec![1], need: bound, positive: literal.clone(), negative: literal };
+            on_long_map(desk, &Sheet { atoms: 1, rules: vec![rule], ..Sheet::default() }.bytes())?;
+        }
+    }
+    // A number above all numbers: five bytes.
+    on_long_map(desk, &bytes_of(&[1, 1, 1, 2, 1, MOST_NUMBER + 1, 0, 0, 0, 0]))
+}
+
+/// The paper's extremes: 1,024,000,000 and -268,435,455.
+fn widest_margins(desk: &Desk) -> Outcome {
+    let all = (1..=MOST_ATOMS).map(|atom| Literal { atom, weight: MOST_WEIGHT }).collect::<Vec<_>>();
+    let widest = Rule { kind: Kind::Weight, heads: vec![1], need: 0, positive: all.clone(), negative: all };
+    let lowest = Rule { kind: Kind::Constraint, need: MOST_NUMBER, ..basic(1, &[], &[]) };
+    let sheet = Sheet { atoms: MOST_ATOMS, rules: vec![widest, lowest], ..Sheet::default() }.bytes();
+    let table = Table { desk, sheet: &sheet };
+    let map = vec![0; MOST_ATOMS];
+    for (rule, margin) in [(1, 1_024_000_000), (2, -268_435_455)] {
+        let wanted = After { code: Answer::Margin(margin).code(), map: map.clone() };
+        table.answers(Call::Margin { rule }, &map, &wanted)?;
+    }
+    on_long_map(desk, &sheet)
+}
+
+fn longest_bodies(desk: &Desk) -> Outcome {
+    let all = (1..=MOST_ATOMS).collect::<Vec<_>>();
+    let kinds = [
+        basic(1, &all, &all),
+        choice(&all, &all[1..], &[]),
+        choice(&all, &[], &[]),
+        Rule { kind: Kind::Constraint, need: 512, ..basic(1, &all, &all) },
+        Rule { kind: Kind::Constraint, need: 513, ..basic(1, &all, &all) },
+    ];
+    let sheet = Sheet { atoms: MOST_ATOMS, rules: kinds.to_vec(), compute_in: all.clone(), compute_out: vec![] };
+    on_long_map(desk, &sheet.bytes())?;
+    on_long_map(desk, &Sheet { compute_in: vec![], compute_out: all, ..sheet }.bytes())
+}
+
+fn map_length(desk: &Desk) -> Outcome {
+    for atoms in [0, 1, 2, 128, 512] {
+        let all = (1..=atoms).collect::<Vec<_>>();
+        let rules = if atoms == 0 { vec![] } else { vec![choice(&all, &[], &[])] };
+        let sheet = Sheet { atoms, rules, ..Sheet::default() }.bytes();
+        for length in [0, atoms.saturating_sub(1), atoms, atoms + 1, atoms + 700] {
+            for byte in [0, 1, 2, 3, 4, 255] {
+                lent_lengths(&Table { desk, sheet: &sheet }, &vec![byte; length])?;
+            }
+        }
+    }
+    Ok(())
+}
+
+fn lent_lengths(table: &Table, map: &[u8]) -> Outcome {
+    for call in [Call::Open, Call::Solve, Call::Test] {
+        table.same(call, map)?;
+    }
+    // The order of refusals: 10 before 11, 11 before 12; 10, 13, 12, 14.
+    for atom in [0, 1, 512, 513] {
+        for side in [0, 1, 2, 3] {
+            table.same(Call::Pin { atom, side }, map)?;
+        }
+    }
+    for rule in [0, 1, 2] {
+        table.same(Call::Margin { rule }, map)?;
+    }
+    Ok(())
+}
+
+/// Numbers that are small when their top is cut off.
+fn wide_numbers(desk: &Desk) -> Outcome {
+    let sheet = Sheet { atoms: 3, rules: vec![choice(&[1, 2, 3], &[], &[1, 2])], ..Sheet::default() }.bytes();
+    let table = Table { desk, sheet: &sheet };
+    for top in [0, 1 << 8, 1 << 9, 1 << 11, 1 << 16, 1 << 31, 1 << 32, 1 << 40, 1 << 63] {
+        for low in [0, 1, 2, 3, 4] {
+            let wide = top + low;
+            table.same(Call::Pin { atom: wide, side: 1 }, &[0; 3])?;
+            table.same(Call::Pin { atom: 1, side: wide }, &[0; 3])?;
+            table.same(Call::Margin { rule: wide }, &[0; 3])?;
+            for (rule, part, index) in [(wide, 0, 0), (1, wide, 0), (1, 3, wide), (1, 8, wide), (1, 9, wide)] {
+                table.same(Call::Rule { rule, part, index }, &[])?;
+            }
+        }
+    }
+    table.same(Call::Pin { atom: u64::MAX, side: u64::MAX }, &[0; 3]).map(drop)
+}
+
+/// 512 atoms that follow one from another, from the last to the first; and
+/// 512 that hold each other up in a ring and nothing else.
+fn longest_chain(desk: &Desk) -> Outcome {
+    let fact = basic(MOST_ATOMS, &[], &[]);
+    let links = (1..MOST_ATOMS).map(|atom| basic(atom, &[atom + 1], &[])).collect::<Vec<_>>();
+    let close = basic(MOST_ATOMS, &[1], &[]);
+    for last in [fact, close] {
+        let rules = [&links[..], &[last]].concat();
+        on_long_map(desk, &Sheet { atoms: MOST_ATOMS, rules, ..Sheet::default() }.bytes())?;
+    }
+    Ok(())
+}

@@ -1,0 +1,533 @@
+//! Desks that are wrong in one way each. Every one of them must be caught by
+//! the suites named beside it, so that each suite is seen to fail.
+
+use outside::agreement::{SUITES, Suite, hold_seeds};
+use outside::answer::{Answer, Refusal};
+use outside::cases;
+use outside::desk::{Desk, lent, lent_mut};
+use outside::plain;
+use outside::plain::meaning::{meets, sure};
+use outside::plain::reader::read_sheet;
+use outside::plain::search::first_model_within;
+use outside::sheet::{Kind, Rule, Sheet};
+
+/// A wrong desk and the suites that must notice it.
+struct Wrong {
+    desk: Desk,
+    caught_by: &'static [&'static str],
+}
+
+fn wrong_desks() -> Vec<Wrong> {
+    let plain = Desk::PLAIN;
+    let wrong = |name, caught_by: &'static [&'static str], change: &dyn Fn(&mut Desk)| {
+        let mut desk = Desk { name, ..plain };
+        change(&mut desk);
+        Wrong { desk, caught_by }
+    };
+    vec![
+        wrong("refuses all sheets", &["well formed", "large", "limits", "any bytes"], &|desk| {
+            desk.check = refuse_all;
+        }),
+        wrong("accepts damaged lists", &["damaged", "any bytes"], &|desk| desk.check = accept_unordered),
+        wrong("looks at the length last", &["limits"], &|desk| desk.check = check_length_last),
+        wrong("places 1 at the last byte", &["short strings", "damaged", "any bytes"], &|desk| {
+            desk.check = check_misplaced;
+        }),
+        wrong("reads past the end", &["damaged", "any bytes", "short strings"], &|desk| desk.check = check_beyond),
+        wrong("writes on a refusal", &["short strings", "damaged", "limits"], &|desk| desk.open = open_and_clear),
+        wrong("always none", &["well formed", "large", "limits", "subsets"], &|desk| desk.solve = solve_none),
+        wrong("last model first", &["well formed", "subsets"], &|desk| desk.solve = solve_last),
+        wrong("open forces nothing", &["well formed", "limits", "closed maps", "pin walks"], &|desk| {
+            desk.open = open_unforced;
+        }),
+        wrong("open looks at each rule once", &["well formed", "closed maps", "shuffled"], &|desk| {
+            desk.open = open_single_pass;
+        }),
+        wrong("open guesses at once", &["well formed", "subsets", "closed maps"], &|desk| {
+            desk.open = open_guessing;
+            desk.pin = pin_nothing;
+        }),
+        wrong("open reads the old map", &["well formed", "pin walks", "large"], &|desk| desk.open = open_if_zero),
+        wrong("open forgets the compute lists", &["well formed", "closed maps", "pin walks"], &|desk| {
+            desk.open = open_without_compute;
+        }),
+        wrong("a choice forces its heads", &["well formed", "subsets", "closed maps"], &|desk| {
+            desk.open = open_choices_as_basic;
+        }),
+        wrong("repeated rules count once", &["well formed", "closed maps", "pin walks"], &|desk| {
+            desk.pin = pin_without_repeats;
+        }),
+        wrong("the first of two reasons forces", &["well formed", "closed maps", "pin walks"], &|desk| {
+            desk.pin = pin_first_reason;
+        }),
+        wrong("pin forces nothing", &["well formed", "closed maps", "pin walks"], &|desk| {
+            desk.pin = pin_unforced;
+        }),
+        wrong("pin does nothing", &["well formed", "closed maps", "pin walks", "limits"], &|desk| {
+            desk.pin = pin_nothing;
+        }),
+        wrong("pin leaves on the last pin's side", &["shuffled", "pin walks", "closed maps"], &|desk| {
+            desk.pin = pin_overwriting;
+        }),
+        wrong("pin cuts numbers to 32 bits", &["limits", "well formed"], &|desk| desk.pin = pin_cut),
+        wrong("counts the decided atoms", &["well formed", "closed maps", "pin walks", "large"], &|desk| {
+            desk.open = open_counting_decided;
+        }),
+        wrong("half a map with a contradiction", &["well formed", "closed maps", "pin walks"], &|desk| {
+            desk.pin = pin_half_written;
+        }),
+        wrong("contradiction past the atoms", &["well formed", "pin walks", "limits"], &|desk| {
+            desk.pin = pin_filling_all;
+        }),
+        wrong("writes beside the map", &["well formed", "large", "limits", "subsets"], &|desk| {
+            desk.solve = solve_one_too_many;
+        }),
+        wrong("test takes every set closed under the rules", &["subsets", "well formed"], &|desk| {
+            desk.test = test_satisfying;
+        }),
+        wrong("test forgets the compute lists", &["subsets", "well formed"], &|desk| {
+            desk.test = test_without_compute;
+        }),
+        wrong("test takes 3 for an answer", &["well formed", "limits"], &|desk| desk.test = test_no_on_three),
+        wrong("margins end at zero", &["well formed", "limits", "closed maps", "pin walks"], &|desk| {
+            desk.margin = margin_from_zero;
+        }),
+        wrong("margin before its order", &["well formed", "limits"], &|desk| desk.margin = margin_twelve_first),
+        wrong("parts counted from 1", &["well formed", "limits"], &|desk| desk.rule = rule_from_one),
+        wrong("parts above 9 refused", &["well formed", "limits"], &|desk| desk.rule = rule_refusing),
+    ]
+}
+
+fn suite(name: &str) -> &'static Suite {
+    SUITES.iter().find(|suite| suite.name == name).expect("a suite has this name")
+}
+
+#[test]
+fn every_wrong_desk_is_caught_by_each_suite_that_should() {
+    for wrong in wrong_desks() {
+        for name in wrong.caught_by {
+            let suite = suite(name);
+            let start = std::time::Instant::now();
+            let found = hold_seeds(&wrong.desk, suite, 0..suite.seeds);
+            let message = found.expect_err(&format!("{}: not caught by {name}", wrong.desk.name)).to_string();
+            assert!(message.contains("seed ") && message.contains("sheet  "), "{message}");
+            println!("{}: caught by {name} in {:.1?}", wrong.desk.name, start.elapsed());
+        }
+    }
+}
+
+#[test]
+fn every_suite_catches_a_wrong_desk() {
+    let wrong = wrong_desks();
+    for suite in &SUITES {
+        assert!(wrong.iter().any(|wrong| wrong.caught_by.contains(&suite.name)), "{}", suite.name);
+    }
+}
+
+#[test]
+fn the_papers_cases_catch_the_wrong_versions_it_names() {
+    let named = [
+        "refuses all sheets",
+        "always none",
+        "open forces nothing",
+        "pin forces nothing",
+        "pin does nothing",
+        "open guesses at once",
+        "counts the decided atoms",
+    ];
+    let wrong = wrong_desks();
+    for name in named {
+        let wrong = wrong.iter().find(|wrong| wrong.desk.name == name).expect("a wrong desk has this name");
+        assert!(cases::hold_all(&wrong.desk).is_err(), "{name}");
+    }
+}
+
+unsafe extern "C" fn refuse_all(_: *const u8, _: usize) -> u64 {
+    refused(1, 0)
+}
+
+unsafe extern "C" fn accept_unordered(s: *const u8, s_len: usize) -> u64 {
+    let s = unsafe { lent(s, s_len) };
+    let code = plain::desk_check(s);
+    if matches!(Answer::of_code(code), Some(Answer::Refused(Refusal { number: 7, .. }))) {
+        return Answer::Accepted { atoms: s[1].into(), rules: s[2].into() }.code();
+    }
+    code
+}
+
+unsafe extern "C" fn check_length_last(s: *const u8, s_len: usize) -> u64 {
+    let s = unsafe { lent(s, s_len) };
+    match plain::desk_check(&s[..s.len().min(65_536)]) {
+        code if s.len() <= 65_536 || code >> 40 != 32 => code,
+        _ => refused(9, 65_536),
+    }
+}
+
+unsafe extern "C" fn check_misplaced(s: *const u8, s_len: usize) -> u64 {
+    let code = plain::desk_check(unsafe { lent(s, s_len) });
+    if code >> 40 == 1 && s_len > 0 { code - 1 } else { code }
+}
+
+/// Takes the eight bytes after the sheet for a part of it.
+unsafe extern "C" fn check_beyond(s: *const u8, s_len: usize) -> u64 {
+    match plain::desk_check(unsafe { lent(s, s_len) }) {
+        // SAFETY: the caller keeps guard bytes there to see this.
+        code if code >> 40 == 1 => plain::desk_check(unsafe { lent(s, s_len + 8) }),
+        code => code,
+    }
+}
+
+unsafe extern "C" fn open_and_clear(s: *const u8, s_len: usize, map: *mut u8, map_len: usize) -> u64 {
+    let (s, map) = unsafe { (lent(s, s_len), lent_mut(map, map_len)) };
+    let code = plain::desk_open(s, map);
+    if code >> 40 < 32 {
+        map.fill(0);
+    }
+    code
+}
+
+unsafe extern "C" fn solve_none(s: *const u8, s_len: usize, map: *mut u8, map_len: usize) -> u64 {
+    let (s, map) = unsafe { (lent(s, s_len), lent_mut(map, map_len)) };
+    let code = plain::desk_solve(s, map);
+    if code != Answer::Model.code() {
+        return code;
+    }
+    fill_atoms(s, map, 3);
+    Answer::NoModel.code()
+}
+
+/// Finds a model by guessing every atom out first.
+unsafe extern "C" fn solve_last(s: *const u8, s_len: usize, map: *mut u8, map_len: usize) -> u64 {
+    let (s, map) = unsafe { (lent(s, s_len), lent_mut(map, map_len)) };
+    let code = plain::desk_solve(s, map);
+    let Ok(sheet) = read_sheet(s) else { return code };
+    if code != Answer::Model.code() {
+        return code;
+    }
+    let mut least = sheet.clone();
+    for atom in 1..=sheet.atoms {
+        let mut without = least.clone();
+        without.compute_out.push(atom);
+        without.compute_out.sort_unstable();
+        without.compute_out.dedup();
+        let mut trial = map.to_vec();
+        if plain::desk_solve(&without.bytes(), &mut trial) == code {
+            map.copy_from_slice(&trial);
+            least = without;
+        }
+    }
+    code
+}
+
+unsafe extern "C" fn open_unforced(s: *const u8, s_len: usize, map: *mut u8, map_len: usize) -> u64 {
+    let (s, map) = unsafe { (lent(s, s_len), lent_mut(map, map_len)) };
+    let code = plain::desk_open(s, map);
+    let Ok(sheet) = read_sheet(s) else { return code };
+    if code >> 40 != 33 {
+        return code;
+    }
+    fill_atoms(s, map, 0);
+    for &atom in &sheet.compute_in {
+        map[atom - 1] = 1;
+    }
+    for &atom in &sheet.compute_out {
+        map[atom - 1] = 2;
+    }
+    closed(&map[..sheet.atoms])
+}
+
+/// Forces heads in one pass over the rules, and nothing else.
+unsafe extern "C" fn open_single_pass(s: *const u8, s_len: usize, map: *mut u8, map_len: usize) -> u64 {
+    let (s, map) = unsafe { (lent(s, s_len), lent_mut(map, map_len)) };
+    let code = unsafe { open_unforced(s.as_ptr(), s_len, map.as_mut_ptr(), map_len) };
+    let Ok(sheet) = read_sheet(s) else { return code };
+    if code >> 40 != 33 {
+        return code;
+    }
+    for rule in sheet.rules.iter().filter(|rule| !rule.is_choice()) {
+        if meets(rule, sure(rule, map)) {
+            map[rule.heads[0] - 1] = 1;
+        }
+    }
+    closed(&map[..sheet.atoms])
+}
+
+unsafe extern "C" fn open_guessing(s: *const u8, s_len: usize, map: *mut u8, map_len: usize) -> u64 {
+    let (s, map) = unsafe { (lent(s, s_len), lent_mut(map, map_len)) };
+    let code = plain::desk_open(s, map);
+    let Ok(sheet) = read_sheet(s) else { return code };
+    match first_model_within(&sheet, 100) {
+        Ok(Some(model)) if code >> 40 == 33 => {
+            map[..sheet.atoms].copy_from_slice(&model);
+            Answer::Closed { undecided: 0 }.code()
+        }
+        _ => code,
+    }
+}
+
+unsafe extern "C" fn open_if_zero(s: *const u8, s_len: usize, map: *mut u8, map_len: usize) -> u64 {
+    let (s, map) = unsafe { (lent(s, s_len), lent_mut(map, map_len)) };
+    match map.iter().position(|&byte| byte != 0) {
+        Some(place) if plain::desk_check(s) >> 40 == 32 => refused(12, place),
+        _ => plain::desk_open(s, map),
+    }
+}
+
+unsafe extern "C" fn open_without_compute(s: *const u8, s_len: usize, map: *mut u8, map_len: usize) -> u64 {
+    let (s, map) = unsafe { (lent(s, s_len), lent_mut(map, map_len)) };
+    match read_sheet(s) {
+        Ok(sheet) => plain::desk_open(&without_compute(sheet), map),
+        Err(_) => plain::desk_open(s, map),
+    }
+}
+
+unsafe extern "C" fn open_choices_as_basic(s: *const u8, s_len: usize, map: *mut u8, map_len: usize) -> u64 {
+    let (s, map) = unsafe { (lent(s, s_len), lent_mut(map, map_len)) };
+    let Ok(sheet) = read_sheet(s) else { return plain::desk_open(s, map) };
+    let as_basic = |rule: &Rule| -> Vec<Rule> {
+        let one = |&head: &usize| Rule { kind: Kind::Basic, heads: vec![head], ..rule.clone() };
+        if rule.is_choice() { rule.heads.iter().map(one).collect() } else { vec![rule.clone()] }
+    };
+    let rules = sheet.rules.iter().flat_map(as_basic).take(2048).collect();
+    plain::desk_open(&Sheet { rules, ..sheet }.bytes(), map)
+}
+
+unsafe extern "C" fn pin_without_repeats(
+    s: *const u8,
+    s_len: usize,
+    map: *mut u8,
+    map_len: usize,
+    atom: u64,
+    side: u64,
+) -> u64 {
+    let (s, map) = unsafe { (lent(s, s_len), lent_mut(map, map_len)) };
+    let Ok(mut sheet) = read_sheet(s) else { return plain::desk_pin(s, map, atom, side) };
+    let mut once: Vec<Rule> = Vec::new();
+    for rule in sheet.rules {
+        if !once.contains(&rule) {
+            once.push(rule);
+        }
+    }
+    sheet.rules = once;
+    plain::desk_pin(&sheet.bytes(), map, atom, side)
+}
+
+/// Pins an atom in as if only the first rule with that head could give it.
+unsafe extern "C" fn pin_first_reason(
+    s: *const u8,
+    s_len: usize,
+    map: *mut u8,
+    map_len: usize,
+    atom: u64,
+    side: u64,
+) -> u64 {
+    let (s, map) = unsafe { (lent(s, s_len), lent_mut(map, map_len)) };
+    let Ok(mut sheet) = read_sheet(s) else { return plain::desk_pin(s, map, atom, side) };
+    let mut seen = false;
+    sheet.rules.retain(|rule| {
+        let again = seen && side == 1 && !rule.is_choice() && rule.heads[0] as u64 == atom;
+        seen |= rule.heads.contains(&(atom as usize));
+        !again
+    });
+    plain::desk_pin(&sheet.bytes(), map, atom, side)
+}
+
+unsafe extern "C" fn pin_unforced(
+    s: *const u8,
+    s_len: usize,
+    map: *mut u8,
+    map_len: usize,
+    atom: u64,
+    side: u64,
+) -> u64 {
+    let (s, map) = unsafe { (lent(s, s_len), lent_mut(map, map_len)) };
+    let old = map.to_vec();
+    let code = plain::desk_pin(s, map, atom, side);
+    if code >> 40 != 33 {
+        return code;
+    }
+    map.copy_from_slice(&old);
+    map[atom as usize - 1] = side as u8;
+    closed(&map[..atoms_of(s)])
+}
+
+unsafe extern "C" fn pin_nothing(
+    s: *const u8,
+    s_len: usize,
+    map: *mut u8,
+    map_len: usize,
+    atom: u64,
+    side: u64,
+) -> u64 {
+    let (s, map) = unsafe { (lent(s, s_len), lent_mut(map, map_len)) };
+    let mut copy = map.to_vec();
+    match plain::desk_pin(s, &mut copy, atom, side) {
+        code if code >> 40 < 32 => code,
+        _ => closed(&map[..atoms_of(s)]),
+    }
+}
+
+/// Puts the atom on the new side whatever it was before.
+unsafe extern "C" fn pin_overwriting(
+    s: *const u8,
+    s_len: usize,
+    map: *mut u8,
+    map_len: usize,
+    atom: u64,
+    side: u64,
+) -> u64 {
+    let (s, map) = unsafe { (lent(s, s_len), lent_mut(map, map_len)) };
+    let mut copy = map.to_vec();
+    let code = plain::desk_pin(s, &mut copy, atom, side);
+    if code >> 40 >= 32 && map[0] != 3 {
+        map[atom as usize - 1] = 0;
+    }
+    if code >> 40 < 32 { code } else { plain::desk_pin(s, map, atom, side) }
+}
+
+unsafe extern "C" fn pin_cut(s: *const u8, s_len: usize, map: *mut u8, map_len: usize, atom: u64, side: u64) -> u64 {
+    let (s, map) = unsafe { (lent(s, s_len), lent_mut(map, map_len)) };
+    plain::desk_pin(s, map, (atom as u32).into(), (side as u32).into())
+}
+
+unsafe extern "C" fn open_counting_decided(s: *const u8, s_len: usize, map: *mut u8, map_len: usize) -> u64 {
+    let (s, map) = unsafe { (lent(s, s_len), lent_mut(map, map_len)) };
+    match Answer::of_code(plain::desk_open(s, map)) {
+        Some(Answer::Closed { undecided }) => Answer::Closed { undecided: atoms_of(s) - undecided }.code(),
+        other => other.expect("plain answers").code(),
+    }
+}
+
+unsafe extern "C" fn pin_half_written(
+    s: *const u8,
+    s_len: usize,
+    map: *mut u8,
+    map_len: usize,
+    atom: u64,
+    side: u64,
+) -> u64 {
+    let (s, map) = unsafe { (lent(s, s_len), lent_mut(map, map_len)) };
+    let old = map.to_vec();
+    let code = plain::desk_pin(s, map, atom, side);
+    if code == Answer::Contradiction.code() && old[0] != 3 {
+        map.copy_from_slice(&old);
+        map[atom as usize - 1] = side as u8;
+    }
+    code
+}
+
+unsafe extern "C" fn pin_filling_all(
+    s: *const u8,
+    s_len: usize,
+    map: *mut u8,
+    map_len: usize,
+    atom: u64,
+    side: u64,
+) -> u64 {
+    let (s, map) = unsafe { (lent(s, s_len), lent_mut(map, map_len)) };
+    let code = plain::desk_pin(s, map, atom, side);
+    if code == Answer::Contradiction.code() {
+        map.fill(3);
+    }
+    code
+}
+
+/// Writes one byte past the end of the lent map.
+unsafe extern "C" fn solve_one_too_many(s: *const u8, s_len: usize, map: *mut u8, map_len: usize) -> u64 {
+    let code = unsafe { plain::desk_solve(lent(s, s_len), lent_mut(map, map_len)) };
+    if code >> 40 >= 32 {
+        // SAFETY: the caller keeps guard bytes there to see this.
+        unsafe { *map.add(map_len) = 2 };
+    }
+    code
+}
+
+unsafe extern "C" fn test_satisfying(s: *const u8, s_len: usize, map: *const u8, map_len: usize) -> u64 {
+    let (s, map) = unsafe { (lent(s, s_len), lent(map, map_len)) };
+    let code = plain::desk_test(s, map);
+    match read_sheet(s) {
+        Ok(sheet) if code == Answer::No.code() && satisfies(&sheet, map) => Answer::Yes.code(),
+        _ => code,
+    }
+}
+
+unsafe extern "C" fn test_without_compute(s: *const u8, s_len: usize, map: *const u8, map_len: usize) -> u64 {
+    let (s, map) = unsafe { (lent(s, s_len), lent(map, map_len)) };
+    match read_sheet(s) {
+        Ok(sheet) => plain::desk_test(&without_compute(sheet), map),
+        Err(_) => plain::desk_test(s, map),
+    }
+}
+
+unsafe extern "C" fn test_no_on_three(s: *const u8, s_len: usize, map: *const u8, map_len: usize) -> u64 {
+    let (s, map) = unsafe { (lent(s, s_len), lent(map, map_len)) };
+    match plain::desk_test(s, map) {
+        code if code >> 40 == 12 && map[0] == 3 => Answer::No.code(),
+        code => code,
+    }
+}
+
+unsafe extern "C" fn margin_from_zero(s: *const u8, s_len: usize, map: *const u8, map_len: usize, rule: u64) -> u64 {
+    let (s, map) = unsafe { (lent(s, s_len), lent(map, map_len)) };
+    match Answer::of_code(plain::desk_margin(s, map, rule)) {
+        Some(Answer::Margin(margin)) => Answer::Margin(margin.max(0)).code(),
+        other => other.expect("plain answers").code(),
+    }
+}
+
+/// Looks at the map's bytes before the rule number.
+unsafe extern "C" fn margin_twelve_first(s: *const u8, s_len: usize, map: *const u8, map_len: usize, rule: u64) -> u64 {
+    let (s, map) = unsafe { (lent(s, s_len), lent(map, map_len)) };
+    let code = plain::desk_margin(s, map, rule);
+    match plain::desk_margin(s, map, 1) {
+        other if code >> 40 == 13 && other >> 40 == 12 => other,
+        _ => code,
+    }
+}
+
+unsafe extern "C" fn rule_from_one(s: *const u8, s_len: usize, rule: u64, part: u64, index: u64) -> u64 {
+    plain::desk_rule(unsafe { lent(s, s_len) }, rule, part, index.wrapping_sub(1))
+}
+
+unsafe extern "C" fn rule_refusing(s: *const u8, s_len: usize, rule: u64, part: u64, index: u64) -> u64 {
+    let code = plain::desk_rule(unsafe { lent(s, s_len) }, rule, part, index);
+    if part > 9 && code >> 40 == 41 { refused(13, 0) } else { code }
+}
+
+fn refused(number: u8, place: usize) -> u64 {
+    Answer::Refused(Refusal { number, place }).code()
+}
+
+fn atoms_of(s: &[u8]) -> usize {
+    read_sheet(s).map_or(0, |sheet| sheet.atoms)
+}
+
+fn fill_atoms(s: &[u8], map: &mut [u8], byte: u8) {
+    map[..atoms_of(s)].fill(byte);
+}
+
+fn closed(map: &[u8]) -> u64 {
+    if map.first() == Some(&3) {
+        return Answer::Contradiction.code();
+    }
+    Answer::Closed { undecided: map.iter().filter(|&&side| side == 0).count() }.code()
+}
+
+fn without_compute(sheet: Sheet) -> Vec<u8> {
+    Sheet { compute_in: vec![], compute_out: vec![], ..sheet }.bytes()
+}
+
+/// Whether every rule whose body holds has its head in, and the compute
+/// lists are kept.
+fn satisfies(sheet: &Sheet, map: &[u8]) -> bool {
+    let is_in = |atom: usize| map[atom - 1] == 1;
+    let weight = |rule: &Rule| -> u32 {
+        let positive = rule.positive.iter().filter(|literal| is_in(literal.atom));
+        let negative = rule.negative.iter().filter(|literal| !is_in(literal.atom));
+        positive.chain(negative).map(|literal| literal.weight).sum()
+    };
+    let kept = |rule: &Rule| rule.is_choice() || weight(rule) < rule.need || is_in(rule.heads[0]);
+    sheet.rules.iter().all(kept)
+        && sheet.compute_in.iter().all(|&atom| is_in(atom))
+        && !sheet.compute_out.iter().any(|&atom| is_in(atom))
+}
