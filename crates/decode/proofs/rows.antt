@@ -1,0 +1,5 @@
+pub mod Laws
+pub mod Written
+pub mod Rule
+pub mod Meant
+pub mod Left

@@ -1,0 +1,10 @@
+pub mod Maps
+pub mod Sheets
+pub mod Faults
+pub mod Tight
+pub mod Order
+pub mod Holdings
+pub mod Works
+pub mod Gates
+pub mod Opens
+pub mod Solving

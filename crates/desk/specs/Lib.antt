@@ -1,0 +1,8 @@
+pub mod Gate
+pub mod Promise
+pub mod Run
+pub mod Held
+pub mod Bytes
+pub mod Work
+pub mod Ready
+pub mod Models

@@ -1,0 +1,146 @@
+-- Counts only fall as a map grows, so a rule that can still give an atom whose count was 1 is the one rule that can.
+use Prim.Native.Nat.{ℕ, _+_, _-_, _≤_, _<_}
+use mathlib.Core.Path.{_≡_, refl, sym, _∙_, ap, subst}
+use mathlib.Core.Bool.{Bool, true, false}
+use mathlib.Core.Logic.{⊎-elim}
+use mathlib.Core.List.{List, List·Memᴰ}
+use native.Mathlib.Nat.{eq-or-lt-of-le}
+use native.Mathlib.Omega.{arith}
+use lib.Dec.{T}
+use Rattle.rules.specs.Rule.{Rule, Within}
+use Rattle.rules.specs.Map.{Map, side, want, reach, _⊑_}
+use Rattle.rules.specs.Forcing.{Closed, supports, supporters}
+use Rattle.rules.proofs.Sum.{tally-mono, count-some}
+use Rattle.rules.proofs.Maps.{reach-falls, decided-within}
+use Rattle.rules.proofs.Forced.{supports-head, supports-reach, to-supports, forced-second}
+use Rattle.table.specs.Words.{atomAt}
+use Rattle.table.specs.Rows.{headsAt, positivesAt, needAt, ruleAt}
+use Rattle.table.proofs.Words.{Listed, atoms-listed, atoms-has}
+use Rattle.weigh.specs.declared.Outcome.{Outcome}
+use Rattle.weigh.specs.declared.Outcome.the-variants.{Same}
+use Rattle.weigh.specs.Press.{aim, Pressed, Due, PressesBody}
+use Rattle.forcing.specs.Support.{Counts, Backed, Lone, NotLone, Tells, TellsAt, BackAsks, Backs}
+use Rattle.weigh.proofs.Bytes.{proper-map}
+use Rattle.weigh.proofs.Steps.{kept-refl, step-same, quieter}
+
+-- whether a head is in and has one rule
+module _ (n : ℕ) (M : Map) (counts : List ℕ) (a a′ : ℕ) (e : a ≡ a′) where
+  pub not-held : (x : ℕ) → x ≡ M a → (x ≡ 1 → ⊥) → TellsAt n M counts a′ false
+  not-held x ex f = record { tells = λ h k. f (ex ∙ ap M e ∙ h) }
+
+  pub not-alone : (k : ℕ) → k ≡ side n counts a → (k ≡ 1 → ⊥) → TellsAt n M counts a′ false
+  not-alone k ek f = record { tells = λ h g. f (ek ∙ ap (side n counts) e ∙ g) }
+
+  pub held-alone : (x k : ℕ) → x ≡ M a → x ≡ 1 → k ≡ side n counts a → k ≡ 1 → TellsAt n M counts a′ true
+  held-alone x k ex hx ek hk =
+      record { tells = (ap M (sym e) ∙ sym ex ∙ hx, ap (side n counts) (sym e) ∙ sym ek ∙ hk) }
+
+module _ (c : List ℕ) (n i : ℕ) (M : Map) (counts : List ℕ) where
+  pub lone-here :
+      (j : ℕ) (b : Bool) → headsAt c i ≤ j → j < positivesAt c i → b ≡ true → TellsAt n M counts (atomAt c j) b → Tells c n i M
+      counts true
+  lone-here j b l h e t =
+      let u : TellsAt n M counts (atomAt c j) true = subst (TellsAt n M counts (atomAt c j)) e t in
+      record {
+        tells =
+            record {
+              atom = atomAt c j;
+              head = atoms-has c (headsAt c i) (positivesAt c i) j (record { low = l; high = h });
+              holds = u .tells .0;
+              alone = u .tells .1;
+            };
+      }
+
+  pub lone-more :
+      (j : ℕ) (b : Bool) → headsAt c i ≤ j → b ≡ false → TellsAt n M counts (atomAt c j) b
+      → ((k : ℕ) → headsAt c i ≤ k → k < j → NotLone n M counts (atomAt c k))
+      → (headsAt c i ≤ j + 1) × ((k : ℕ) → headsAt c i ≤ k → k < j + 1 → NotLone n M counts (atomAt c k))
+  lone-more j b l e t none =
+      let u : TellsAt n M counts (atomAt c j) false = subst (TellsAt n M counts (atomAt c j)) e t in (
+        omega arith,
+        λ k low high. ⊎-elim (λ (o : k ≡ j). subst (λ (x : ℕ). NotLone n M counts (atomAt c x)) (sym o) (u .tells))
+            (λ (h : k < j). none k low h) (eq-or-lt-of-le (omega arith)),
+      )
+
+  pub lone-nowhere :
+      (j : ℕ) → positivesAt c i ≤ j → ((k : ℕ) → headsAt c i ≤ k → k < j → NotLone n M counts (atomAt c k)) → Tells c n i M
+      counts false
+  lone-nowhere j b none =
+      record {
+        tells =
+            λ a t.
+            let f : Listed c (headsAt c i) (positivesAt c i) a = atoms-listed c (headsAt c i) (positivesAt c i) a t in
+            subst (NotLone n M counts) (sym (f .same)) (none (f .at) (f .among .low) (omega (arith, f .among .high)));
+      }
+
+-- a literal made true is on the side that its sign wants
+granted : (s : Bool) → aim true s ≡ want s
+granted true = refl
+granted false = refl
+
+-- the rules that can give an atom only become fewer
+fewer-supporters : (P : List Rule) (M M′ : Map) (a : ℕ) → M ⊑ M′ → supporters a M′ P ≤ supporters a M P
+fewer-supporters P M M′ a f =
+    tally-mono (supports a M′) (supports a M) (λ _. 1) P
+    (λ r b t. to-supports a M r (supports-head a M′ r t) (omega (arith, reach-falls f r, supports-reach a M′ r t)))
+
+module _ (c : List ℕ) (n i : ℕ) (counts m : List ℕ) (asks : BackAsks c n i counts m) where
+  -- nothing to add, and nothing done
+  left : ((P : List Rule) → Counts P n (side n m) counts → Backed P (ruleAt c i) (side n m)) → Backs c n i counts m m Same
+  left q =
+      record {
+        kept = kept-refl n m (asks .proper);
+        step = λ P b M₀ up k. step-same (Closed P n) n (λ M. Counts P n M counts → Backed P (ruleAt c i) M) m (asks .proper) (q P);
+      }
+
+  within : (a : ℕ) → side n m a ≡ 1 → Within n a
+  within a e = decided-within (proper-map n m (asks .proper)) true a e
+
+  pub back-none : (b : Bool) → b ≡ false → Tells c n i (side n m) counts b → Backs c n i counts m m Same
+  back-none b e t =
+      let u : Tells c n i (side n m) counts false = subst (Tells c n i (side n m) counts) e t in
+      left (λ P k a h o g. absurd (u .tells a (supports-head a (side n m) (ruleAt c i) g) h (k a (within a h) ∙ o)))
+
+  module _ (need most : ℕ) (en : need ≡ needAt c i) (er : most ≡ reach (ruleAt c i) (side n m)) where
+    pub back-short : most < need → Backs c n i counts m m Same
+    back-short h =
+        left (λ P k a e o g. absurd (omega (arith, supports-reach a (side n m) (ruleAt c i) g, en, er)))
+
+    pub back-press :
+        (b : Bool) → b ≡ true → Tells c n i (side n m) counts b → need ≤ most → (m′ : List ℕ) (r : Outcome)
+        → PressesBody c n i (most - need + 1) true m m′ r → Backs c n i counts m m′ r
+    back-press b e t h m′ r p =
+        record {
+          kept = p .kept;
+          step =
+              λ P b M₀ up k.
+              quieter (Closed P n) n (Pressed (ruleAt c i) (most - need + 1))
+              (λ M. Counts P n M counts → Backed P (ruleAt c i) M) m m′ r
+              (λ q g a o u v s l w z d. q s l w (omega arith) z)
+              (p .step P (due P b M₀ up k));
+        }
+      where
+        lone : Lone c n i (side n m) counts
+        lone = subst (Tells c n i (side n m) counts) e t .tells
+
+        due :
+            (P : List Rule) → List·Memᴰ (ruleAt c i) P → (M₀ : Map) → M₀ ⊑ side n m → Counts P n M₀ counts
+            → Due P n (ruleAt c i) (most - need + 1) true (side n m)
+        due P b M₀ up k s l w g z =
+            record {
+              forced = λ X x f. forced-second f x (lone .atom) (lone .holds) one (ruleAt c i) b supp s l w z (omega arith) ∙ sym
+                  (granted s);
+            }
+          where
+            supp : T (supports (lone .atom) (side n m) (ruleAt c i))
+            supp = to-supports (lone .atom) (side n m) (ruleAt c i) (lone .head) (omega arith)
+
+            one : supporters (lone .atom) (side n m) P ≡ 1
+            one =
+                omega (
+                  arith,
+                  k (lone .atom) (within (lone .atom) (lone .holds)),
+                  lone .alone,
+                  fewer-supporters P M₀ (side n m) (lone .atom) up,
+                  count-some (supports (lone .atom) (side n m)) P (ruleAt c i) b supp,
+                )

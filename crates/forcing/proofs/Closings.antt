@@ -1,0 +1,190 @@
+-- Where no pass adds anything, each forcing rule holds of the map, so it is closed; and what was added on the way is in every closed
+-- map above the first, so it is the smallest.
+use Prim.Native.Nat.{ℕ, suc, _+_, _≤_, _<_}
+use mathlib.Core.Path.{_≡_, sym, _∙_, ap, subst}
+use mathlib.Core.Bool.{Bool, true, false, false≢true}
+use mathlib.Core.List.{List}
+use mathlib.Core.Logic.{⊎-elim}
+use native.Mathlib.Omega.{arith}
+use native.Mathlib.Numerals.{add-one}
+use borrow.Author.Tests.{eq-eqb, ne-eqb}
+use lib.Dec.{eqb}
+use lib.ListN.{length, getD, take, drop, drop-of-length-le}
+use lib.Seq.{length-take-le, drop-cons, getD-take}
+use Rattle.rules.specs.Sum.{counted, tally}
+use Rattle.rules.specs.Rule.{Rule}
+use Rattle.rules.specs.Map.{Map, side, _⊑_}
+use Rattle.rules.specs.Forcing.{Closed, Least}
+use Rattle.table.specs.Rows.{ruleAt, rulesAt}
+use Rattle.table.proofs.Rows.{Standing, rule-stands}
+use Rattle.weigh.specs.declared.Outcome.{Outcome}
+use Rattle.weigh.specs.declared.Outcome.the-variants.{Clash, Same, Grew}
+use Rattle.forcing.specs.declared.Closing.the-variants.{NoneHolds, ClosedWith}
+use Rattle.weigh.specs.Step.{Proper, Step, Till, isClash, isGrew, isSame, undecided}
+use Rattle.forcing.specs.Heads.{Settled, SettlesAll}
+use Rattle.forcing.specs.Support.{Counts, Backed, BacksAll}
+use Rattle.forcing.specs.Ground.{ListsFounded, Drops, Unless}
+use Rattle.forcing.specs.Close.{Summed, Forcing, BackedAll, FoundedAll, Closes, ClosesMap}
+use Rattle.weigh.proofs.Bytes.{proper-map, equal?}
+use Rattle.weigh.proofs.Steps.{kept-refl, kept-trans, forces-refl, forces-trans, quieter, step-joined}
+use Rattle.forcing.proofs.Founding.{unfounded-out}
+
+-- an outcome that is not the same is not quiet for anything
+pub loud-any :
+    (Good : Map → Type 0) (n : ℕ) (Q Q′ : Map → Type 0) (m m′ : List ℕ) (r : Outcome) → isSame r ≡ false → Step Good n Q m m′ r
+    → Step Good n Q′ m m′ r
+loud-any Good n Q Q′ m m′ Clash e s = record { kept = s .kept; went = s .went }
+loud-any Good n Q Q′ m m′ Same e s = absurd (false≢true (sym e))
+loud-any Good n Q Q′ m m′ Grew e s = record { kept = s .kept; went = s .went }
+
+-- two steps of which the first adds nothing
+pub after-same :
+    (Good : Map → Type 0) (n : ℕ) (Q Q′ : Map → Type 0) (m m′ m″ : List ℕ) (r q : Outcome) → isSame r ≡ true → Step Good n Q m m′ r
+    → Step Good n Q′ m′ m″ q → Step Good n (λ M. Q M × Q′ M) m m″ q
+after-same Good n Q Q′ m m′ m″ Clash q e s t = absurd (false≢true e)
+after-same Good n Q Q′ m m′ m″ Same q e s t = step-joined Good n Q Q′ m m′ m″ Same q s (t .kept) (λ _. t)
+after-same Good n Q Q′ m m′ m″ Grew q e s t = absurd (false≢true e)
+
+module _ (c : List ℕ) (n count : ℕ) where
+  -- the counts were those of the map where the pass began
+  pub backed :
+      (m m′ counts : List ℕ) (r : Outcome) → Counts (rulesAt c count) n (side n m) counts → BacksAll c n count counts count m m′ r
+      → Forcing c n count (BackedAll c count) m m′ r
+  backed m m′ counts r k s =
+      quieter (Closed (rulesAt c count) n) n
+      (Till (λ k M. Counts (rulesAt c count) n M counts → Backed (rulesAt c count) (ruleAt c k) M) 0 count) (BackedAll c count)
+      m m′ r
+      (λ t i l h. t i l h k) s
+
+  pub dropped :
+      (m m′ u : List ℕ) (r : Outcome) → ListsFounded c n count m u → Drops n u m (n + 1) m′ r
+      → Forcing c n count (FoundedAll c n count) m m′ r
+  dropped m m′ u r l s =
+      quieter (Closed (rulesAt c count) n) n (Till (λ b. Unless (side n u) b 1 2) 1 (n + 1)) (FoundedAll c n count) m m′ r quiet
+      (s .step (rulesAt c count) (unfounded-out c n count m u l))
+    where
+      quiet : Till (λ b. Unless (side n u) b 1 2) 1 (n + 1) (side n m) → FoundedAll c n count (side n m)
+      quiet t a w o =
+          ⊎-elim (l .listed a) (λ f. absurd (o (t a (w .low) (omega (arith, w .high)) f))) (equal? (side n u a) 1)
+
+  -- where each rule is quiet the map is closed
+  all-closed :
+      (m : List ℕ) → Proper n m
+      → (Till (λ k. Settled (ruleAt c k)) 0 count (side n m) × BackedAll c count (side n m)) × FoundedAll c n count (side n m)
+      → Closed (rulesAt c count) n (side n m)
+  all-closed m p q =
+      record {
+        isMap = proper-map n m p;
+        first = λ r b. settled r (rule-stands c count r b) .first;
+        second = λ a h o r b. backs r (rule-stands c count r b) a h o;
+        third = λ r b. settled r (rule-stands c count r b) .third;
+        fourth = q .1;
+      }
+    where
+      settled : (r : Rule) → Standing c 0 count r → Settled r (side n m)
+      settled r s = subst (λ (x : Rule). Settled x (side n m)) (sym (s .same)) (q .0 .0 (s .row) (s .among .low) (s .among .high))
+
+      backs : (r : Rule) → Standing c 0 count r → Backed (rulesAt c count) r (side n m)
+      backs r s =
+          subst (λ (x : Rule). Backed (rulesAt c count) x (side n m)) (sym (s .same))
+          (q .0 .1 (s .row) (s .among .low) (s .among .high))
+
+  Settling : Map → Type 0
+  Settling = Till (λ k. Settled (ruleAt c k)) 0 count
+
+  -- a round: three passes, or the first of them that adds something
+  pub round-whole :
+      (m m₁ m₂ m₃ : List ℕ) (r q o : Outcome) → Proper n m → isSame r ≡ true → SettlesAll c n count count m m₁ r → isSame q ≡ true
+      → Forcing c n count (BackedAll c count) m₁ m₂ q → Forcing c n count (FoundedAll c n count) m₂ m₃ o
+      → Forcing c n count (Closed (rulesAt c count) n) m m₃ o
+  unfolding Settling
+  round-whole m m₁ m₂ m₃ r q o p er s eq t u =
+      quieter (Closed (rulesAt c count) n) n (λ M. (Settling M × BackedAll c count M) × FoundedAll c n count M)
+      (Closed (rulesAt c count) n) m m₃ o
+      (all-closed m p)
+      (after-same (Closed (rulesAt c count) n) n (λ M. Settling M × BackedAll c count M) (FoundedAll c n count) m m₂ m₃ q o eq
+      (after-same (Closed (rulesAt c count) n) n Settling (BackedAll c count) m m₁ m₂ r q er s t) u)
+
+  pub round-second :
+      (m m₁ m₂ : List ℕ) (r q : Outcome) → isSame r ≡ true → SettlesAll c n count count m m₁ r → isSame q ≡ false
+      → Forcing c n count (BackedAll c count) m₁ m₂ q → Forcing c n count (Closed (rulesAt c count) n) m m₂ q
+  unfolding Settling
+  round-second m m₁ m₂ r q er s eq t =
+      loud-any (Closed (rulesAt c count) n) n (λ M. Settling M × BackedAll c count M) (Closed (rulesAt c count) n) m m₂ q eq
+      (after-same (Closed (rulesAt c count) n) n Settling (BackedAll c count) m m₁ m₂ r q er s t)
+
+  -- rounds until none adds anything
+  module _ (m : List ℕ) where
+    pub closes-begin : Proper n m → Closes c n count m m
+    closes-begin p = record { kept = kept-refl n m p; forces = forces-refl (Closed (rulesAt c count) n) (side n m) }
+
+    pub closes-more :
+        (m′ m″ : List ℕ) (r : Outcome) → isGrew r ≡ true → Closes c n count m m′
+        → Forcing c n count (Closed (rulesAt c count) n) m′ m″ r → Closes c n count m m″ × (undecided n m″ < undecided n m′)
+    closes-more m′ m″ Clash e f s = absurd (false≢true e)
+    closes-more m′ m″ Same e f s = absurd (false≢true e)
+    closes-more m′ m″ Grew e f s = (
+      record {
+        kept = kept-trans n m m′ m″ (f .kept) (s .kept);
+        forces = forces-trans (Closed (rulesAt c count) n) (f .forces)
+            (s .went .forces);
+      },
+      s .went .fewer,
+    )
+
+    pub closes-none :
+        (m′ m″ : List ℕ) (r : Outcome) → isClash r ≡ true → Closes c n count m m′
+        → Forcing c n count (Closed (rulesAt c count) n) m′ m″ r → ClosesMap c n count m m″ NoneHolds
+    closes-none m′ m″ Clash e f s =
+        record { kept = kept-trans n m m′ m″ (f .kept) (s .kept); answers = λ X x h. s .went .none X x (f .forces .sound X x h) }
+    closes-none m′ m″ Same e f s = absurd (false≢true e)
+    closes-none m′ m″ Grew e f s = absurd (false≢true e)
+
+    pub closes-with :
+        (m′ m″ : List ℕ) (r : Outcome) (k : ℕ) → isGrew r ≡ false → isClash r ≡ false → Closes c n count m m′
+        → Forcing c n count (Closed (rulesAt c count) n) m′ m″ r → k ≡ undecided n m″ → ClosesMap c n count m m″ (ClosedWith k)
+    closes-with m′ m″ Clash k e g f s u = absurd (false≢true (sym g))
+    closes-with m′ m″ Same k e g f s u =
+        record {
+          kept = kept-trans n m m′ m″ (f .kept) (s .kept);
+          answers = (
+            subst (λ (x : List ℕ). Least (rulesAt c count) n (λ X. side n m ⊑ X) (side n x)) (sym (s .went .0))
+                (record { closed = s .went .1; holding = f .forces .keeps; below = λ X x h. f .forces .sound X x h }),
+            u,
+          );
+        }
+    closes-with m′ m″ Grew k e g f s u = absurd (false≢true (sym e))
+
+-- counting the zero bytes
+pub summed-begin : (n : ℕ) (m : List ℕ) → Summed n m 0 0
+unfolding undecided
+summed-begin n m = record { few = omega arith; whole = omega arith }
+
+module _ (n : ℕ) (m : List ℕ) (room : n ≤ length m) (sum i : ℕ) (s : Summed n m sum i) where
+  next :
+      i < n
+      → tally (λ b. eqb b 0) (λ _. 1) (drop i (take n m))
+      ≡ counted (eqb (getD m i 0) 0) 1 + tally (λ b. eqb b 0) (λ _. 1) (drop (i + 1) (take n m))
+  unfolding tally
+  next h =
+      ap (tally (λ b. eqb b 0) (λ _. 1)) (drop-cons (take n m) i 0 (omega (arith, length-take-le n m room)))
+      ∙ ap (λ (x : ℕ). counted (eqb x 0) 1 + tally (λ b. eqb b 0) (λ _. 1) (drop (suc i) (take n m))) (getD-take n m i 0 h)
+      ∙ ap (λ (x : ℕ). counted (eqb (getD m i 0) 0) 1 + tally (λ b. eqb b 0) (λ _. 1) (drop x (take n m))) (sym (add-one i))
+
+  pub summed-zero : i < n → getD m i 0 ≡ 0 → Summed n m (sum + 1) (i + 1)
+  summed-zero h e =
+      let z : counted (eqb (getD m i 0) 0) 1 ≡ 1 = ap (λ (b : Bool). counted b 1) (eq-eqb (getD m i 0) 0 e) in
+      record { few = omega (arith, s .few); whole = omega (arith, s .whole, next h) }
+
+  pub summed-other : i < n → (getD m i 0 ≡ 0 → ⊥) → Summed n m sum (i + 1)
+  summed-other h e =
+      let z : counted (eqb (getD m i 0) 0) 1 ≡ 0 = ap (λ (b : Bool). counted b 1) (ne-eqb (getD m i 0) 0 e) in
+      record { few = omega (arith, s .few); whole = omega (arith, s .whole, next h) }
+
+  pub summed-end : n ≤ i → sum ≡ undecided n m
+  unfolding tally
+  summed-end h =
+      let past : length (take n m) ≤ i = omega (arith, length-take-le n m room) in
+      let z : tally (λ b. eqb b 0) (λ _. 1) (drop i (take n m)) ≡ 0 = ap (tally (λ b. eqb b 0) (λ _. 1))
+      (drop-of-length-le (take n m) past) in
+      omega (arith, s .whole)

@@ -1,0 +1,6 @@
+pub mod Settling
+pub mod Counting
+pub mod Backing
+pub mod Groundings
+pub mod Founding
+pub mod Closings

@@ -1,0 +1,4 @@
+pub mod Heads
+pub mod Support
+pub mod Ground
+pub mod Close

@@ -1,0 +1,87 @@
+// Closing a map: the forcing rules, one pass after another, until none adds anything.
+use super::Closing;
+use super::ground::drop_all;
+use super::ground::founded;
+use super::heads::settle_all;
+use super::support::back_all;
+use super::support::count_all;
+use weigh::Outcome;
+use weigh::step::is_clash;
+use weigh::step::is_grew;
+use weigh::step::is_same;
+ghost use mathlib.Core.Path.{_≡_};
+ghost use Rattle.rules.specs.Forcing.{Closed};
+ghost use Rattle.table.specs.Rows.{rulesAt, Laid};
+ghost use Rattle.weigh.specs.Weigh.{Room};
+ghost use Rattle.weigh.specs.Step.{Proper, undecided};
+ghost use Rattle.forcing.specs.Close.{Forcing, BackedAll, FoundedAll, ClosesMap};
+
+// How many of the n atoms are undecided.
+pub fn count_undecided(m: &[u8], n: u32) -> u32
+    requires { ⌜ Room n (now m) ⌝ }
+    ensures { λ r. ⌜ r ≡ undecided n (now (m .entry)) ⌝ }
+{
+    let mut sum: u32 = 0;
+    let mut i: u32 = 0;
+    while i < n {
+        if m[i as usize] == 0 {
+            sum += 1;
+        }
+        i += 1;
+    }
+    sum
+}
+
+// Forcing rule 2 at every rule.
+fn back_round(code: &[u32], n: u32, count: u32, m: &mut [u8]) -> Outcome
+    requires { ⌜ Laid (now code) n count × Proper n (now m) ⌝ }
+    ensures { λ r. ⌜ Forcing (now (code .entry)) n count (BackedAll (now (code .entry)) count) (now (m .entry)) (now (m .exit)) r ⌝ }
+{
+    let mut counts = [0u32; 512];
+    count_all(code, n, count, m, &mut counts);
+    back_all(code, n, count, &counts, m)
+}
+
+// Forcing rule 4 at every atom.
+fn drop_round(code: &[u32], n: u32, count: u32, m: &mut [u8]) -> Outcome
+    requires { ⌜ Laid (now code) n count × Proper n (now m) ⌝ }
+    ensures { λ r. ⌜ Forcing (now (code .entry)) n count (FoundedAll (now (code .entry)) n count) (now (m .entry)) (now (m .exit)) r ⌝ }
+{
+    let mut u = [0u8; 512];
+    founded(code, n, count, m, &mut u);
+    drop_all(n, &u, m)
+}
+
+// The four forcing rules, the dearer ones only where the cheaper add nothing.
+fn round(code: &[u32], n: u32, count: u32, m: &mut [u8]) -> Outcome
+    requires { ⌜ Laid (now code) n count × Proper n (now m) ⌝ }
+    ensures { λ r. ⌜ Forcing (now (code .entry)) n count (Closed (rulesAt (now (code .entry)) count) n) (now (m .entry)) (now (m .exit)) r ⌝ }
+{
+    let first = settle_all(code, n, count, m);
+    if is_same(first) {
+        let second = back_round(code, n, count, m);
+        if is_same(second) {
+            return drop_round(code, n, count, m);
+        }
+        return second;
+    }
+    first
+}
+
+// The smallest closed map that holds m, in its place, with the number of its undecided atoms; or that no closed map holds m, and
+// then the n bytes are of no use.
+pub fn close(code: &[u32], n: u32, count: u32, m: &mut [u8]) -> Closing
+    requires { ⌜ Laid (now code) n count × Proper n (now m) ⌝ }
+    ensures { λ r. ⌜ ClosesMap (now (code .entry)) n count (now (m .entry)) (now (m .exit)) r ⌝ }
+{
+    loop {
+        let one = round(code, n, count, m);
+        if is_grew(one) {
+            continue;
+        }
+        if is_clash(one) {
+            return Closing::NoneHolds;
+        }
+        return Closing::ClosedWith(count_undecided(m, n));
+    }
+}

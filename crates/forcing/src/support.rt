@@ -1,0 +1,140 @@
+// Forcing rule 2: an atom that is in and that one rule alone can still give.
+use weigh::Outcome;
+use weigh::press::press_body;
+use weigh::reach;
+use weigh::side_of;
+use weigh::step::is_clash;
+use weigh::step::join;
+ghost use Prim.Native.Nat.{ℕ};
+ghost use mathlib.Core.Path.{_≡_};
+ghost use Rattle.rules.specs.Sum.{has};
+ghost use Rattle.rules.specs.Rule.{Within};
+ghost use Rattle.rules.specs.Map.{side};
+ghost use Rattle.rules.specs.Forcing.{supports};
+ghost use Rattle.table.specs.Words.{atomAt, atoms, Pair};
+ghost use Rattle.table.specs.Rows.{headsAt, positivesAt, ruleAt, rulesAt, Row, Laid};
+ghost use Rattle.weigh.specs.Weigh.{Room, Side};
+ghost use Rattle.weigh.specs.Step.{Proper};
+ghost use Rattle.forcing.specs.Support.{Counts, Small, PairCounts, Adds, Tells, TellsAt, BackAsks, Backs, BacksAll};
+
+// The count of atom a, one of n.
+fn count_of(counts: &[u32], n: u32, a: u32) -> u32
+    requires { ⌜ Side n a (now counts) ⌝ }
+    ensures { λ r. ⌜ r ≡ side n (now (counts .entry)) a ⌝ }
+{
+    counts[(a - 1) as usize]
+}
+
+// One more for the atom of pair j.
+fn count_pair(code: &[u32], n: u32, j: u32, counts: &mut [u32])
+    requires { ⌜ Pair (now code) n j × Small n 1 (now counts) ⌝ }
+    ensures { λ r. ⌜ PairCounts (now (code .entry)) n j (now (counts .entry)) (now (counts .exit)) ⌝ }
+{
+    let a = table::atom_at(code, j);
+    let old = count_of(counts, n, a);
+    let k = (a - 1) as usize;
+    counts[k] = old + 1;
+}
+
+// One more for each head of rule i.
+fn count_heads(code: &[u32], n: u32, i: u32, counts: &mut [u32])
+    requires { ⌜ Row (now code) n i × Small n 0 (now counts) ⌝ }
+    ensures { λ r. ⌜ Adds n (λ a. has a (atoms (now (code .entry)) (headsAt (now (code .entry)) i) (positivesAt (now (code .entry)) i))) (now (counts .entry)) (now (counts .exit)) ⌝ }
+{
+    let end = table::positives_at(code, i);
+    let mut j = table::heads_at(code, i);
+    while j < end {
+        count_pair(code, n, j, counts);
+        j += 1;
+    }
+}
+
+// One more for each head that rule i can still give.
+fn count_rule(code: &[u32], n: u32, i: u32, m: &[u8], counts: &mut [u32])
+    requires { ⌜ Row (now code) n i × (Room n (now m) × Small n 0 (now counts)) ⌝ }
+    ensures { λ r. ⌜ Adds n (λ a. supports a (side n (now (m .entry))) (ruleAt (now (code .entry)) i)) (now (counts .entry)) (now (counts .exit)) ⌝ }
+{
+    if reach(code, n, i, m) < table::need_at(code, i) {
+        return;
+    }
+    count_heads(code, n, i, counts);
+}
+
+// For each atom, how many rules can still give it.
+pub fn count_all(code: &[u32], n: u32, count: u32, m: &[u8], counts: &mut [u32])
+    requires { ⌜ Laid (now code) n count × (Room n (now m) × (Room n (now counts) × ((a : ℕ) → Within n a → side n (now counts) a ≡ 0))) ⌝ }
+    ensures { λ r. ⌜ Counts (rulesAt (now (code .entry)) count) n (side n (now (m .entry))) (now (counts .exit)) ⌝ }
+{
+    let mut i: u32 = 0;
+    while i < count {
+        count_rule(code, n, i, m, counts);
+        i += 1;
+    }
+}
+
+// Is the atom of pair j in, with a count of 1?
+fn is_lone(code: &[u32], n: u32, j: u32, m: &[u8], counts: &[u32]) -> bool
+    requires { ⌜ Pair (now code) n j × (Room n (now m) × Room n (now counts)) ⌝ }
+    ensures { λ r. ⌜ TellsAt n (side n (now (m .entry))) (now (counts .entry)) (atomAt (now (code .entry)) j) r ⌝ }
+{
+    let a = table::atom_at(code, j);
+    let x = side_of(m, n, a);
+    if x != 1 {
+        return false;
+    }
+    let k = count_of(counts, n, a);
+    if k != 1 {
+        return false;
+    }
+    true
+}
+
+// Is a head of rule i so?
+fn has_lone(code: &[u32], n: u32, i: u32, m: &[u8], counts: &[u32]) -> bool
+    requires { ⌜ Row (now code) n i × (Room n (now m) × Room n (now counts)) ⌝ }
+    ensures { λ r. ⌜ Tells (now (code .entry)) n i (side n (now (m .entry))) (now (counts .entry)) r ⌝ }
+{
+    let end = table::positives_at(code, i);
+    let mut j = table::heads_at(code, i);
+    while j < end {
+        if is_lone(code, n, j, m, counts) {
+            return true;
+        }
+        j += 1;
+    }
+    false
+}
+
+// Rule i: where it is the one rule that can give a head that is in, the literals that its need cannot do without are made true.
+fn back(code: &[u32], n: u32, i: u32, counts: &[u32], m: &mut [u8]) -> Outcome
+    requires { ⌜ BackAsks (now code) n i (now counts) (now m) ⌝ }
+    ensures { λ r. ⌜ Backs (now (code .entry)) n i (now (counts .entry)) (now (m .entry)) (now (m .exit)) r ⌝ }
+{
+    if has_lone(code, n, i, m, counts) {
+        let need = table::need_at(code, i);
+        let most = reach(code, n, i, m);
+        if most < need {
+            return Outcome::Same;
+        }
+        return press_body(code, n, i, most - need + 1, true, m);
+    }
+    Outcome::Same
+}
+
+// Every rule, one after another, by the counts of the map as it stands at first.
+pub fn back_all(code: &[u32], n: u32, count: u32, counts: &[u32], m: &mut [u8]) -> Outcome
+    requires { ⌜ Laid (now code) n count × (Room n (now counts) × (Proper n (now m) × Counts (rulesAt (now code) count) n (side n (now m)) (now counts))) ⌝ }
+    ensures { λ r. ⌜ BacksAll (now (code .entry)) n count (now (counts .entry)) count (now (m .entry)) (now (m .exit)) r ⌝ }
+{
+    let mut all = Outcome::Same;
+    let mut i: u32 = 0;
+    while i < count {
+        let one = back(code, n, i, counts, m);
+        all = join(all, one);
+        if is_clash(all) {
+            return all;
+        }
+        i += 1;
+    }
+    all
+}

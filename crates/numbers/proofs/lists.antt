@@ -1,0 +1,5 @@
+pub mod Laws
+pub mod Most
+pub mod Numbers
+pub mod Encoded
+pub mod Whole

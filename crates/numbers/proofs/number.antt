@@ -1,0 +1,3 @@
+pub mod Laws
+pub mod Most
+pub mod Encoded

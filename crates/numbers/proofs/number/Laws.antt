@@ -1,0 +1,88 @@
+-- The groups of a number, read low group first into a sum: what is left of the number counts by the scale that has been reached.
+use Prim.Native.Nat.{ℕ, suc, _+_, _-_, _*_, _^_, _%_, _≤_, _<_}
+use mathlib.Core.Path.{_≡_, refl, ap, _∙_}
+use mathlib.Core.Bool.{true, false, _&&_}
+use mathlib.Core.List.{List}
+use native.Mathlib.Omega.{arith}
+use native.Mathlib.Nat.{mul-assoc, mul-comm, add-mul, mul-le-mul-left, mul-le-mul-right, pow-le-pow-right, le-trans, pow-suc}
+use native.Mathlib.Numerals.{add-one}
+use borrow.Author.Tests.{lt-ltb, le-ltb}
+use lib.ListN.{length, getD}
+use lib.Dec.{ltb, eqb, lit<}
+use Rattle.numbers.specs.Answer.{pick, readThen, part, refusal}
+use Rattle.numbers.specs.Number.{groupsFrom}
+use Rattle.numbers.specs.declared.Read.{Read}
+use Rattle.numbers.specs.declared.Read.the-variants.{Got, Refused}
+use Rattle.numbers.proofs.Answer.{one-left}
+
+-- a number whose groups before these make up the sum
+unfoldable pub scaled : ℕ → ℕ → Read → Read
+scaled sum scale (Got p) = Got (part (sum + p .value * scale) (p .first) (p .next))
+scaled sum scale (Refused why) = Refused why
+
+pub scaled-once : (a : Read) → scaled 0 1 a ≡ a
+unfolding scaled
+scaled-once (Got p) = ap (λ (v : ℕ). Got (part v (p .first) (p .next))) (omega arith)
+scaled-once (Refused why) = refl
+
+regroup : (sum scale low v : ℕ) → sum + (low + 128 * v) * scale ≡ sum + low * scale + v * (scale * 128)
+regroup sum scale low v =
+    let e : (low + 128 * v) * scale ≡ low * scale + 128 * v * scale = add-mul low (128 * v) scale in
+    let f : 128 * v * scale ≡ v * (scale * 128) = mul-assoc 128 v scale ∙ mul-comm 128 (v * scale) ∙ mul-assoc v scale 128 in
+    omega arith
+
+pub scaled-more :
+    (sum scale low : ℕ) (a : Read)
+    → scaled sum scale (readThen Refused a (λ high. Got (part (low + 128 * high .value) (high .first) (high .next))))
+    ≡ scaled (sum + low * scale) (scale * 128) a
+unfolding scaled readThen
+scaled-more sum scale low (Got p) =
+    ap (λ (v : ℕ). Got (part v (p .first) (p .next))) (regroup sum scale low (p .value))
+scaled-more sum scale low (Refused why) = refl
+
+-- how far the scale and the sum can grow in four groups
+pub scale-most : (k scale : ℕ) → k < 4 → scale ≤ 128 ^ k → scale ≤ 128 ^ 3
+scale-most k scale h w = le-trans w (pow-le-pow-right {n = 128} (lit< tt) {i = k} {j = 3} (omega arith))
+
+pub group-most : (k scale group : ℕ) → k < 4 → scale ≤ 128 ^ k → group < 128 → group * scale ≤ 127 * 128 ^ 3
+group-most k scale group h w g =
+    le-trans (mul-le-mul-right {m = group} {n = 127} scale (omega arith)) (mul-le-mul-left 127 (scale-most k scale h w))
+
+pub sum-grows : (sum scale group : ℕ) → sum < scale → group < 128 → sum + group * scale < scale * 128
+sum-grows sum scale group h g =
+    let m : group * scale ≤ 127 * scale = mul-le-mul-right {m = group} {n = 127} scale (omega arith) in
+    omega arith
+
+pub scale-grows : (k scale : ℕ) → scale ≤ 128 ^ k → scale * 128 ≤ 128 ^ (k + 1)
+scale-grows k scale w = rw (add-one, pow-suc) (mul-le-mul-right 128 w)
+
+module _ (s : List ℕ) (k first at sum scale : ℕ) where
+  unfoldable pub here : Read
+  here = scaled sum scale (groupsFrom (4 - k) s first at)
+
+  opened : k < 4 → here ≡ scaled sum scale (groupsFrom (suc (4 - (k + 1))) s first at)
+  unfolding here
+  opened h = ap (λ (left : ℕ). scaled sum scale (groupsFrom left s first at)) (one-left 4 k h)
+
+  pub ended : k < 4 → length s ≤ at → Refused (refusal 1 (length s)) ≡ here
+  unfolding scaled groupsFrom pick
+  ended h e = simp (opened h, le-ltb _ _ e)
+
+  module _ (h : k < 4) (l : at < length s) (group : ℕ) (g : group ≡ getD s at 0) where
+    pub needless : group < 128 → (ltb first at && eqb group 0) ≡ true → Refused (refusal 2 first) ≡ here
+    unfolding scaled groupsFrom pick
+    needless b z = simp (opened h, lt-ltb _ _ l, ← g, lt-ltb _ _ b, z)
+
+    pub last : group < 128 → (ltb first at && eqb group 0) ≡ false → Got (part (sum + group * scale) first (at + 1)) ≡ here
+    unfolding scaled groupsFrom pick
+    last b z = simp (opened h, lt-ltb _ _ l, ← g, lt-ltb _ _ b, z)
+
+    pub more : 128 ≤ group → scaled (sum + group % 128 * scale) (scale * 128) (groupsFrom (4 - (k + 1)) s first (at + 1)) ≡ here
+    unfolding groupsFrom pick
+    more b = simp (opened h, lt-ltb _ _ l, ← g, le-ltb _ _ b, scaled-more)
+
+pub spent : (s : List ℕ) (k first at sum scale : ℕ) → 4 ≤ k → Refused (refusal 2 first) ≡ here s k first at sum scale
+unfolding here scaled groupsFrom
+spent s k first at sum scale h =
+    let e : 0 ≡ 4 - k = omega arith in
+    ap (λ (left : ℕ). scaled sum scale (groupsFrom left s first at)) e

@@ -1,0 +1,32 @@
+// The numbers and the lists of a sheet: what its bytes say at a place, or why they are refused. Every reader takes any bytes and any
+// place.
+ghost use mathlib.Core.Path.{_≡_};
+ghost use Rattle.numbers.specs.Answer.{refusal};
+
+pub mod lists;
+pub mod number;
+
+// Why a sheet is refused: the number of the refusal, and its place.
+pub struct Refusal {
+    pub number: usize,
+    pub place: usize,
+}
+
+// What was read: its value, its first place, and the place after it. Of a list the value is its count, and `first` is the place of
+// its first atom.
+pub struct Part {
+    pub value: usize,
+    pub first: usize,
+    pub next: usize,
+}
+
+pub enum Read {
+    Got(Part),
+    Refused(Refusal),
+}
+
+fn refused(number: usize, place: usize) -> Read
+    ensures { λ r. ⌜ r ≡ Read.Refused (refusal number place) ⌝ }
+{
+    Read::Refused(Refusal { number, place })
+}

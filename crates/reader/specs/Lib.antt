@@ -1,0 +1,3 @@
+pub mod Place
+pub mod Reader
+pub mod Reading

@@ -1,0 +1,59 @@
+-- An accepted sheet has one meaning and one form. All of it follows from what reading it has read, part by part.
+use Prim.Native.Nat.{ℕ, _+_, _*_, _≤_}
+use mathlib.Core.Path.{_≡_, refl, sym, ap, subst, _∙_}
+use mathlib.Core.List.{List}
+use native.Mathlib.Omega.{arith}
+use lib.ListN.{length}
+use Rattle.rules.specs.Limits.{bytesMost}
+use Rattle.rules.specs.Rule.{Sheet, Fits}
+use Rattle.numbers.specs.Encode.{IsBytes}
+use Rattle.sheet.specs.Sheet.{checkOf, checkThen}
+use Rattle.sheet.specs.Meaning.{accepted, refused, sheetMeant, sheetOf}
+use Rattle.sheet.specs.Encode.{encode, WellFormed, rulesSize}
+use Rattle.sheet.specs.declared.sheet.Outline.{Outline}
+use Rattle.sheet.specs.declared.sheet.Checked.{Checked}
+use Rattle.sheet.specs.declared.sheet.Checked.the-variants.{Accepted, Refused as RefusedSheet}
+use Rattle.sheet.proofs.sheet.Ran.{SheetRan, sheet-ran}
+use Rattle.sheet.proofs.sheet.Written.{sheet-written}
+use Rattle.sheet.proofs.Fits.{propers-fit}
+
+-- a meaning came of an accepted check
+pub outlined : (s : List ℕ) (sh : Sheet) → sheetOf s ≡ accepted sh → (o : Outline) × (checkOf s ≡ Accepted o) × (sheetMeant s o ≡ sh)
+unfolding sheetOf checkThen
+outlined s sh e = by (checkOf s) refl e
+  where
+    by :
+        (c : Checked) → checkOf s ≡ c → checkThen refused c (λ o. accepted (sheetMeant s o)) ≡ accepted sh
+        → (o : Outline) × (checkOf s ≡ Accepted o) × (sheetMeant s o ≡ sh)
+    by (Accepted o) h z = (o, h, cc)
+    by (RefusedSheet why) h z = let w : _≡_ {A = ℕ} 0 1 = cc in absurd (omega arith)
+
+module _ (s : List ℕ) (sh : Sheet) (e : sheetOf s ≡ accepted sh) where
+  ran : (o : Outline) × SheetRan s o × (sheetMeant s o ≡ sh)
+  ran = let o = outlined s sh e in (o .0, sheet-ran s (o .0) (o .1), o .2)
+
+  -- an accepted sheet's counts, lists and weights are within the limits
+  pub well-formed : WellFormed sh
+  well-formed = subst (λ (t : Sheet). WellFormed t) (ran .2) (ran .1 .wellFormed)
+
+  pub fits : Fits (sh .atoms) (sh .rules)
+  fits = propers-fit (sh .atoms) (sh .rules) (well-formed .rules)
+
+  -- its heads and literals, three for each rule and five more are no more than its bytes
+  pub size : rulesSize (sh .rules) + 3 * length (sh .rules) + 5 ≤ length s
+  size = subst (λ (t : Sheet). rulesSize (t .rules) + 3 * length (t .rules) + 5 ≤ length s) (ran .2) (ran .1 .far)
+
+  pub short : length s ≤ bytesMost
+  short = ran .1 .short
+
+  -- it is the encoding of what it means
+  pub encoded : IsBytes s → s ≡ encode sh
+  encoded is = ran .1 .bytes is ∙ ap encode (ran .2)
+
+-- two accepted sheets with equal meaning are equal bytes
+pub one-form : (s t : List ℕ) (sh : Sheet) → IsBytes s → IsBytes t → sheetOf s ≡ accepted sh → sheetOf t ≡ accepted sh → s ≡ t
+one-form s t sh hs ht e f = encoded s sh e hs ∙ sym (encoded t sh f ht)
+
+-- what `encode` writes of a sheet within the limits is accepted and means that sheet
+pub accepts : (sh : Sheet) → WellFormed sh → length (encode sh) ≤ bytesMost → sheetOf (encode sh) ≡ accepted sh
+accepts sh w l = sheet-written (encode sh) sh w refl l

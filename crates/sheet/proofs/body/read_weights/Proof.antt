@@ -1,0 +1,78 @@
+-- `read_weights` meets its contract. The loop's invariant: the run of the weights that are left, from here on, is the whole answer.
+use Prim.Native.Nat.{_≤_, _-_}
+use mathlib.Core.Path.{_≡_, _∙_}
+use native.Mathlib.Nat.{sub-zero}
+use native.Mathlib.Omega.{arith}
+use borrow.Author.Needs.{needs}
+use Rattle.rules.specs.Limits.{weightMost}
+use Rattle.numbers.specs.Answer.{part}
+use Rattle.numbers.specs.Lists.{run}
+use Rattle.sheet.specs.Body.{weightAt, weightsAt}
+use Rattle.numbers.proofs.lists.Laws.{turn, turn-out, turned}
+use Rattle.sheet.proofs.body.Laws.{weights-alike}
+use Rattle.sheet.proofs.body.read_weights.Statement.{statement}
+use Rattle.sheet.proofs.body.read_weights.Tie as tie
+
+abbrev Inv-loop : tie.InvT-loop
+Inv-loop s count first at₀ counter₀ at counter =
+    (counter ≤ count) × (run (weightAt s) (count - counter) 0 (part count first at) ≡ weightsAt s count first)
+
+abbrev μ-loop : tie.MeasureT-loop
+μ-loop s count first at₀ counter₀ at counter = count - counter
+
+loop-holds : tie.Need-loop-holds Inv-loop μ-loop
+unfolding weightsAt
+loop-holds c = (search needs, simp sub-zero)
+
+read-within-requires : tie.Need-read-within-requires Inv-loop μ-loop
+read-within-requires c κs = search needs
+
+enum-known-got : tie.Need-enum-known-got Inv-loop μ-loop
+enum-known-got c = search needs
+
+enum-told : tie.Need-enum-told Inv-loop μ-loop
+enum-told c = search needs
+
+returns : tie.Need-returns Inv-loop μ-loop
+unfolding weightAt weightMost
+returns c =
+    let l = c .before .before .before .before .loop in
+    turn-out _ _ (l .counter) _ _ (l .inv .1) (c .before .before .before .loop-test .taken)
+    (c .before .before .read-within .ensures) _ (c .enum-told .given .1)
+
+add-counter : tie.Need-add-counter Inv-loop μ-loop
+add-counter c = omega arith
+
+loop-less : tie.Need-loop-less Inv-loop μ-loop
+loop-less c = omega arith
+
+loop-again : tie.Need-loop-again Inv-loop μ-loop
+unfolding weightAt weightMost
+loop-again c =
+    let l = c .before .before .before .before .before .loop in (
+      omega arith,
+      weights-alike _ _ _ _ _
+          ∙ turn _ _ (l .counter) _ _ (l .inv .1) (c .before .before .before .before .loop-test .taken)
+          (c .before .before .before .read-within .ensures) _ (c .before .got .given .1),
+    )
+
+returns-2 : tie.Need-returns-2 Inv-loop μ-loop
+returns-2 c =
+    let l = c .before .loop in
+    turned _ _ (l .counter) _ _ (l .inv .1) (c .loop-test .left)
+
+pub read-weights-spec : {M : Type 1} → statement M
+read-weights-spec =
+    tie.close
+    (tie.spec
+    Inv-loop
+    μ-loop
+    loop-holds
+    read-within-requires
+    enum-known-got
+    enum-told
+    returns
+    add-counter
+    loop-less
+    loop-again
+    returns-2)

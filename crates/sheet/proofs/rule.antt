@@ -1,0 +1,5 @@
+pub mod Laws
+pub mod Apart
+pub mod Ran
+pub mod Means
+pub mod Written

@@ -1,0 +1,69 @@
+-- "A rule is one of four kinds, each with its own head part:
+-- 1 basic: head, body
+-- 2 constraint: head, bound, body
+-- 3 choice: head list (count 1 to n, strictly increasing), body
+-- 5 weight: head, bound, body, then one weight (0 to 1,000,000) for each positive and then for each negative literal, in body order.
+-- A body is a list of positive atoms and then a list of negated atoms. A bound is any number."
+-- Refusal 5: "kind not 1, 2, 3, 5", at its first byte.
+use Prim.Native.Nat.{ℕ}
+use mathlib.Core.Bool.{Bool, true, false}
+use mathlib.Core.List.{List}
+use lib.Dec.{eqb}
+use Rattle.rules.specs.Number.{atomOf}
+use Rattle.rules.specs.declared.Atom.{Atom}
+use Rattle.numbers.specs.Answer.{refusal, part, pick, readThen, atomThen}
+use Rattle.numbers.specs.Number.{numberAt}
+use Rattle.numbers.specs.Lists.{run, listAt}
+use Rattle.numbers.specs.declared.Refusal.{Refusal}
+use Rattle.numbers.specs.declared.Read.{Read}
+use Rattle.numbers.specs.declared.Read.the-variants.{Got, Refused}
+use Rattle.sheet.specs.Body.{bodyAt}
+use Rattle.sheet.specs.declared.rule.Kind.{Kind}
+use Rattle.sheet.specs.declared.rule.Kind.the-variants.{Basic, Constraint, Choice, Weight}
+use Rattle.sheet.specs.declared.rule.Rule.{Rule}
+use Rattle.sheet.specs.declared.rule.RuleRead.{RuleRead}
+use Rattle.sheet.specs.declared.rule.RuleRead.the-variants.{Got as GotRule, Refused as RefusedRule}
+
+-- the head at a place, an atom, and what comes after it
+unfoldable pub headThen : List ℕ → ℕ → ℕ → (Atom → ℕ → RuleRead) → RuleRead
+headThen s n at next =
+    readThen RefusedRule (numberAt s at)
+    (λ number. atomThen (RefusedRule (refusal 6 at)) (atomOf n (number .value)) (λ head. next head (number .next)))
+
+unfoldable pub basicAt : List ℕ → ℕ → ℕ → RuleRead
+basicAt s n at = headThen s n at (λ head next. bodyAt s n (Basic head) next)
+
+-- a constraint and a weight rule have the same head part
+abbrev pub bounded : Bool → Atom → ℕ → Kind
+bounded true head bound = Weight head bound
+bounded false head bound = Constraint head bound
+
+unfoldable pub boundedAt : List ℕ → ℕ → Bool → ℕ → RuleRead
+boundedAt s n weighs at =
+    headThen s n at
+    (λ head next. readThen RefusedRule (numberAt s next)
+    (λ bound. bodyAt s n (bounded weighs head (bound .value)) (bound .next)))
+
+unfoldable pub choiceAt : List ℕ → ℕ → ℕ → RuleRead
+choiceAt s n at = readThen RefusedRule (listAt s 1 n at) (λ heads. bodyAt s n (Choice heads) (heads .next))
+
+unfoldable pub ruleAt : List ℕ → ℕ → ℕ → RuleRead
+ruleAt s n at =
+    readThen RefusedRule (numberAt s at)
+    (λ kind. pick (eqb (kind .value) 1) (basicAt s n (kind .next))
+    (pick (eqb (kind .value) 2) (boundedAt s n false (kind .next))
+    (pick (eqb (kind .value) 3) (choiceAt s n (kind .next))
+    (pick (eqb (kind .value) 5) (boundedAt s n true (kind .next))
+    (RefusedRule (refusal 5 at))))))
+
+-- what comes after a rule that was read; a refusal is handed up
+unfoldable pub ruleThen : {A : Type 0} → (Refusal → A) → RuleRead → (Rule → A) → A
+ruleThen up (GotRule rule) next = next rule
+ruleThen up (RefusedRule why) next = up why
+
+-- a rule, as one more of a run of rules
+unfoldable pub ruleStep : List ℕ → ℕ → ℕ → ℕ → Read
+ruleStep s n before at = ruleThen Refused (ruleAt s n at) (λ rule. Got (part before at (rule .next)))
+
+unfoldable pub rulesAt : List ℕ → ℕ → ℕ → ℕ → Read
+rulesAt s n count at = run (ruleStep s n) count 0 (part count at at)

@@ -1,0 +1,18 @@
+-- `table::atom_at`: It is the word that the definition names.
+use borrow.Author.Needs.{needs}
+use Rattle.table.specs.Words.{atomAt, pairWidth}
+use Rattle.table.proofs.atom_at.Statement.{statement}
+use Rattle.table.proofs.atom_at.Tie as tie
+
+mul-word : tie.Need-mul-word
+mul-word c = search needs
+
+word-requires : tie.Need-word-requires
+word-requires c κs = search needs
+
+returns : tie.Need-returns
+unfolding atomAt pairWidth
+returns c = search needs
+
+pub atom-at-spec : {M : Type 1} → statement M
+atom-at-spec = tie.close (tie.spec mul-word word-requires returns)

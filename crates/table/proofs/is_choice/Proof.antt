@@ -1,0 +1,23 @@
+-- `table::is_choice`: A kind is that of a choice exactly where its word is 3.
+use borrow.Author.Needs.{needs}
+use Prim.Native.Nat.{ℕ}
+use mathlib.Core.Path.{sym, _∙_, ap}
+use lib.Dec.{eqb}
+use Rattle.table.specs.Words.{rowWidth}
+use Rattle.table.specs.Rows.{kindAt}
+use Rattle.table.proofs.Rows.{kind-chooses}
+use Rattle.table.proofs.is_choice.Statement.{statement}
+use Rattle.table.proofs.is_choice.Tie as tie
+
+mul-word : tie.Need-mul-word
+mul-word c = search needs
+
+word-requires : tie.Need-word-requires
+word-requires c κs = search needs
+
+returns : tie.Need-returns
+unfolding kindAt rowWidth
+returns c = ap (λ (w : ℕ). eqb w 3) (c .word .ensures) ∙ sym (kind-chooses _)
+
+pub is-choice-spec : {M : Type 1} → statement M
+is-choice-spec = tie.close (tie.spec mul-word word-requires returns)

@@ -1,0 +1,71 @@
+// A table: the rules of a sheet as one list of words. Nothing here asks anything of the words: a word past the end is 0.
+ghost use mathlib.Core.Path.{_≡_};
+ghost use Rattle.rules.specs.Rule.{chooses};
+ghost use Rattle.table.specs.Words.{wordAt, atomAt, weightAt};
+ghost use Rattle.table.specs.Rows.{kindAt, needAt, headsAt, positivesAt, negativesAt, endAt};
+
+// How many words a row and a pair have.
+pub const ROW: usize = 5;
+
+pub const PAIR: usize = 2;
+
+// The kind of a choice rule.
+pub const CHOICE: u32 = 3;
+
+pub fn word(code: &[u32], i: usize) -> u32
+    ensures { λ r. ⌜ r ≡ wordAt (now (code .entry)) i ⌝ }
+{
+    if i < code.len() { code[i] } else { 0 }
+}
+
+// The atom of pair j, and the weight of its literal.
+pub fn atom_at(code: &[u32], j: u32) -> u32
+    ensures { λ r. ⌜ r ≡ atomAt (now (code .entry)) j ⌝ }
+{
+    word(code, PAIR * (j as usize))
+}
+
+pub fn weight_at(code: &[u32], j: u32) -> u32
+    ensures { λ r. ⌜ r ≡ weightAt (now (code .entry)) j ⌝ }
+{
+    word(code, PAIR * (j as usize) + 1)
+}
+
+// Has rule i a list of heads, of which it may give any?
+pub fn is_choice(code: &[u32], i: u32) -> bool
+    ensures { λ r. ⌜ r ≡ chooses (kindAt (now (code .entry)) i) ⌝ }
+{
+    word(code, ROW * (i as usize)) == CHOICE
+}
+
+pub fn need_at(code: &[u32], i: u32) -> u32
+    ensures { λ r. ⌜ r ≡ needAt (now (code .entry)) i ⌝ }
+{
+    word(code, ROW * (i as usize) + 1)
+}
+
+// Where the heads of rule i begin; the positive literals, which end them; and the negated literals, which end those.
+pub fn heads_at(code: &[u32], i: u32) -> u32
+    ensures { λ r. ⌜ r ≡ headsAt (now (code .entry)) i ⌝ }
+{
+    word(code, ROW * (i as usize) + 2)
+}
+
+pub fn positives_at(code: &[u32], i: u32) -> u32
+    ensures { λ r. ⌜ r ≡ positivesAt (now (code .entry)) i ⌝ }
+{
+    word(code, ROW * (i as usize) + 3)
+}
+
+pub fn negatives_at(code: &[u32], i: u32) -> u32
+    ensures { λ r. ⌜ r ≡ negativesAt (now (code .entry)) i ⌝ }
+{
+    word(code, ROW * (i as usize) + 4)
+}
+
+// Where rule i ends: the next row's heads begin there.
+pub fn end_at(code: &[u32], i: u32) -> u32
+    ensures { λ r. ⌜ r ≡ endAt (now (code .entry)) i ⌝ }
+{
+    word(code, ROW * (i as usize + 1) + 2)
+}

@@ -1,0 +1,4 @@
+pub mod Lines
+pub mod Room
+pub mod Meaning
+pub mod Examples
