@@ -7,4 +7,6 @@ pub mod Holdings
 pub mod Works
 pub mod Gates
 pub mod Opens
+pub mod Scans
 pub mod Solving
+pub mod Testing

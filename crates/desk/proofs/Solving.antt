@@ -48,17 +48,17 @@ module _ {s : List ℕ} {o : Outline} {c : List ℕ} (cd : Coded s o c (o .atoms
   sh = sheetMeant s o
 
   -- the sheet whose rules stand in the table
-  abbrev tabled : Sheet
+  abbrev pub tabled : Sheet
   tabled = sheetFor c (o .atoms) (o .rules .value) (sh .computeIn) (sh .computeOut)
 
-  same : tabled ≡ sh
+  pub same : tabled ≡ sheetMeant s o
   unfolding sheetMeant
   same =
       ap
       (λ (R : List Rule). record { atoms = o .atoms; rules = R; computeIn = sh .computeIn; computeOut = sh .computeOut })
       (cd .rules)
 
-  ok : Numbered tabled
+  pub ok : Numbered tabled
   ok = subst Numbered (sym same) (numbered s sh (meant s o (cd .sheet .accepted)))
 
   -- what opening asks

@@ -6,3 +6,4 @@ pub mod Bytes
 pub mod Work
 pub mod Ready
 pub mod Models
+pub mod Scan

@@ -3,7 +3,9 @@ pub mod bytes;
 pub mod held;
 pub mod open;
 pub mod read;
+pub mod scan;
 pub mod solve;
+pub mod test;
 pub mod work;
 
 use numbers::Refusal;
