@@ -8,5 +8,9 @@ pub mod Works
 pub mod Gates
 pub mod Opens
 pub mod Scans
+pub mod RuleGates
+pub mod Weighing
+pub mod Pieces
 pub mod Solving
 pub mod Testing
+pub mod Pinning

@@ -7,3 +7,5 @@ pub mod Work
 pub mod Ready
 pub mod Models
 pub mod Scan
+pub mod Ask
+pub mod ReadParts

@@ -12,7 +12,7 @@ use weigh::step::is_clash;
 use weigh::step::put;
 
 // One atom of n, put in or out: false where it is on the other side.
-fn hold_atom(n: u32, atom: u32, inside: bool, m: &mut [u8]) -> bool
+pub fn hold_atom(n: u32, atom: u32, inside: bool, m: &mut [u8]) -> bool
     requires { ⌜ Proper n (now m) × Within n atom ⌝ }
     ensures { λ r. ⌜ Takes n (now (m .entry)) (signed inside atom ∷ []) (now (m .exit)) r ⌝ }
 {

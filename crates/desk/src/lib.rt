@@ -1,7 +1,10 @@
 // The calls: check, part, open, pin, solve, test and margin, on any lent bytes.
 pub mod bytes;
 pub mod held;
+pub mod margins;
 pub mod open;
+pub mod piece;
+pub mod pin;
 pub mod read;
 pub mod scan;
 pub mod solve;
