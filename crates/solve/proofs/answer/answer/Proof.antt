@@ -1,0 +1,79 @@
+-- `answer` meets its contract: each line is that of the answer that solve gave.
+use borrow.Author.Needs.{needs}
+use Rattle.solve.proofs.Lines.{answered, model-answered}
+use Rattle.rules.specs.Limits.{atomsMost}
+use Rattle.solve.proofs.answer.answer.Statement.{statement}
+use Rattle.solve.proofs.answer.answer.Tie as tie
+
+slice-aggregate-solve : tie.Need-slice-aggregate-solve
+slice-aggregate-solve c = search needs
+
+solve-requires : tie.Need-solve-requires
+solve-requires c κs = search needs
+
+enum-told : tie.Need-enum-told
+enum-told c = search needs
+
+slice-aggregate-model-line : tie.Need-slice-aggregate-model-line
+slice-aggregate-model-line c = search needs
+
+atoms-requires : tie.Need-atoms-requires
+atoms-requires c κs = search needs
+
+model-line-requires : tie.Need-model-line-requires
+model-line-requires c κs = search needs
+
+enum-told-2 : tie.Need-enum-told-2
+enum-told-2 c = search needs
+
+none-line-requires : tie.Need-none-line-requires
+none-line-requires c κs = search needs
+
+enum-known-solved : tie.Need-enum-known-solved
+enum-known-solved c = search needs
+
+refused-line-requires : tie.Need-refused-line-requires
+refused-line-requires c κs = search needs
+
+returns : tie.Need-returns
+unfolding atomsMost
+returns c =
+    model-answered _
+    (c .before .before .before .enum-told .given .1)
+    (c .before .before .before .before .before .before .solve .ensures)
+    (c .before .atoms .ensures)
+    (c .model-line .ensures)
+
+returns-2 : tie.Need-returns-2
+unfolding atomsMost
+returns-2 c =
+    answered _
+    (c .before .enum-told2 .given .1)
+    (c .before .before .before .before .solve .ensures)
+    (c .none-line .ensures)
+
+returns-3 : tie.Need-returns-3
+unfolding atomsMost
+returns-3 c =
+    answered _
+    (c .before .before .solved .given .1)
+    (c .before .before .before .before .before .solve .ensures)
+    (c .refused-line .ensures)
+
+pub answer-spec : {M : Type 1} → statement M
+answer-spec =
+    tie.close
+    (tie.spec
+    slice-aggregate-solve
+    solve-requires
+    enum-told
+    slice-aggregate-model-line
+    atoms-requires
+    model-line-requires
+    enum-told-2
+    none-line-requires
+    enum-known-solved
+    refused-line-requires
+    returns
+    returns-2
+    returns-3)

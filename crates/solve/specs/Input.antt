@@ -1,0 +1,11 @@
+-- "reads one sheet from standard input": the bytes that were read are the first of the buffer, and no more than it has.
+use Prim.Native.Nat.{ℕ, _≤_}
+use mathlib.Core.Path.{_≡_}
+use mathlib.Core.List.{List}
+use lib.ListN.{length, take}
+use Rattle.solve.specs.declared.Input.{Input}
+use Rattle.solve.specs.declared.Input.the-variants.{Bytes, Failed}
+
+abbrev pub Within : List ℕ → Input → Type 0
+Within buffer (Bytes len) = (len ≤ length buffer) × (len ≡ length (take len buffer))
+Within buffer Failed = Unit {0}
