@@ -13,8 +13,8 @@ use borrow.Author.Tests.{le-ltb}
 use Rattle.rules.specs.Rule.{Sheet, Numbered, Shuffled}
 use Rattle.rules.specs.Stable.{Set, Model}
 use Rattle.rules.specs.Map.{Map, Literal, Holding, inside, side, total, _⊑_}
-use Rattle.rules.specs.Forcing.{Least, Contradiction, Pinned, SameSet, computed, inn, out}
-use Rattle.rules.proofs.Least.{least-same, contradiction-same, least-unique, least-or-contradiction, holding-left, holding-right, holding-append, pins-after, contradiction-after, holding-nil, holding-set, same-sym}
+use Rattle.rules.specs.Forcing.{Closed, Least, Contradiction, Pinned, SameSet, computed, inn, out}
+use Rattle.rules.proofs.Least.{least-same, contradiction-same, least-unique, least-or-contradiction, holding-left, holding-right, holding-append, pins-after, contradiction-after, pin-held, holding-nil, holding-set, same-sym}
 use Rattle.rules.proofs.Models.{loses-none, none-lost}
 use Rattle.rules.proofs.Shuffle.{shuffled, least-alike, contradiction-alike}
 use Rattle.rules.proofs.Bytes.{map-side}
@@ -25,11 +25,14 @@ use Rattle.numbers.specs.declared.Refusal.{Refusal}
 use Rattle.sheet.specs.Meaning.{Reading, accepted, refused, sheetOf}
 use Rattle.desk.specs.Gate.{Gate, stop, go, Fault, none, sheetThen, stopIf, roomThen, pinThen, faultThen, openGate, pinGate, mapFault, isThrees}
 use Rattle.desk.specs.Promise.{Upon, Opens, Pins, Ends, PinEnds, ClosedMap, NoMap, Asked, Written, threes, pinned}
+use Rattle.weigh.specs.Step.{undecided}
 use Rattle.desk.specs.Run.{Pin, keepIf, acceptedOf, Pinning, done, next, Run, Final, closed, contradiction}
 use Rattle.desk.specs.declared.Opened.{Opened}
 use Rattle.desk.specs.declared.Opened.the-variants.{Closed as ClosedWith, Contradiction as Contradicted, Refused as RefusedMap}
 use Rattle.desk.proofs.Maps.{side-bytes}
 use Rattle.desk.proofs.Faults.{proper-no-fault, proper-no-threes, threes-no-fault, threes-threes}
+use Rattle.desk.proofs.Sheets.{numbered}
+use Rattle.desk.proofs.Tight.{ends-tight}
 
 -- the map after some of the pins, and that it is long enough
 record State (sh : Sheet) (ps : List Literal) (m : List ℕ) : Type 0 where
@@ -340,10 +343,37 @@ order r r′ k same = final-same k same (run-final r) (run-final r′)
 
 -- forcing never loses an agreeing stable model: each that has the pins agrees with the map at the end
 pub loses-no-model :
-    {s : List ℕ} {sh : Sheet} {ps : List Pin} {m : List ℕ} → Numbered sh → Run s sh ps m → (S : Set) → Model sh S
+    {s : List ℕ} {sh : Sheet} {ps : List Pin} {m : List ℕ} → Run s sh ps m → (S : Set) → Model sh S
     → Holding (acceptedOf (sh .atoms) ps) (total (sh .atoms) S) → side (sh .atoms) m ⊑ total (sh .atoms) S
-loses-no-model {sh = sh} {ps = ps} {m = m} ok r S md h = step (run-final r)
+loses-no-model {s = s} {sh = sh} {ps = ps} {m = m} r S md h = step (run-final r)
   where
+    ok : Numbered sh
+    ok = numbered s sh (r .is)
+
     step : Final sh (acceptedOf (sh .atoms) ps) m → side (sh .atoms) m ⊑ total (sh .atoms) S
     step (closed l) = loses-none ok (acceptedOf (sh .atoms) ps) l md h
     step (contradiction c all) = absurd (none-lost ok (acceptedOf (sh .atoms) ps) c md h)
+
+-- "A pin already held on a closed map changes nothing."
+pub held-pin :
+    (s m m′ : List ℕ) (a v : ℕ) (r : Opened) (sh : Sheet) → pinGate s m a v ≡ go sh
+    → Closed (sh .rules) (sh .atoms) (side (sh .atoms) m) → Holding (pinned a v ∷ []) (side (sh .atoms) m) → Pins s m a v m′ r
+    → m′ ≡ m
+held-pin s m m′ a v r sh g c h q = step (isThrees (sh .atoms) m) (subst Going g (q .promise))
+  where
+    Going : Gate → Type 0
+    Going x =
+        Upon x (λ why. (r ≡ RefusedMap why) × (m′ ≡ m)) (λ (t : Sheet). PinEnds (isThrees (t .atoms) m) t m a v m′ r)
+
+    as-it-was : ClosedMap sh (Asked sh m a v) m m (undecided (sh .atoms) m)
+    as-it-was =
+        record {
+          least = pin-held (side (sh .atoms) m) (pinned a v ∷ []) c h;
+          open′ = refl;
+          written = record { long = refl; past = refl };
+        }
+
+    step : (b : Bool) → PinEnds b sh m a v m′ r → m′ ≡ m
+    step true e = e .1
+    step false e =
+        ends-tight sh (Asked sh m a v) m m′ m r (ClosedWith (undecided (sh .atoms) m)) e as-it-was .1
