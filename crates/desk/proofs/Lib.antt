@@ -14,3 +14,4 @@ pub mod Pieces
 pub mod Solving
 pub mod Testing
 pub mod Pinning
+pub mod Broken

@@ -9,3 +9,4 @@ pub mod Models
 pub mod Scan
 pub mod Ask
 pub mod ReadParts
+pub mod Wrong

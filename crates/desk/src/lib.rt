@@ -1,15 +1,15 @@
 // The calls: check, part, open, pin, solve, test and margin, on any lent bytes.
-pub mod bytes;
-pub mod held;
+mod bytes;
+mod held;
 pub mod margins;
 pub mod open;
 pub mod piece;
 pub mod pin;
 pub mod read;
-pub mod scan;
+mod scan;
 pub mod solve;
 pub mod test;
-pub mod work;
+mod work;
 
 use numbers::Refusal;
 

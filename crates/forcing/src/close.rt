@@ -5,6 +5,7 @@ use super::ground::founded;
 use super::heads::settle_all;
 use super::support::back_all;
 use super::support::count_all;
+use rules::Atom;
 use weigh::Outcome;
 use weigh::step::is_clash;
 use weigh::step::is_grew;
@@ -37,7 +38,7 @@ fn back_round(code: &[u32], n: u32, count: u32, m: &mut [u8]) -> Outcome
     requires { ⌜ Laid (now code) n count × Proper n (now m) ⌝ }
     ensures { λ r. ⌜ Forcing (now (code .entry)) n count (BackedAll (now (code .entry)) count) (now (m .entry)) (now (m .exit)) r ⌝ }
 {
-    let mut counts = [0u32; 512];
+    let mut counts = [0u32; Atom::LAST];
     count_all(code, n, count, m, &mut counts);
     back_all(code, n, count, &counts, m)
 }
@@ -47,7 +48,7 @@ fn drop_round(code: &[u32], n: u32, count: u32, m: &mut [u8]) -> Outcome
     requires { ⌜ Laid (now code) n count × Proper n (now m) ⌝ }
     ensures { λ r. ⌜ Forcing (now (code .entry)) n count (FoundedAll (now (code .entry)) n count) (now (m .entry)) (now (m .exit)) r ⌝ }
 {
-    let mut u = [0u8; 512];
+    let mut u = [0u8; Atom::LAST];
     founded(code, n, count, m, &mut u);
     drop_all(n, &u, m)
 }

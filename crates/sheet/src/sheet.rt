@@ -17,7 +17,7 @@ use rules::RuleNo;
 use rules::RuleOr;
 
 // The longest sheet, in bytes.
-const BYTES_MOST: usize = 65_536;
+pub const BYTES_MOST: usize = 65_536;
 
 // An accepted sheet: its atom count, its rules (their count, and the place of the first), its compute-in and its compute-out list.
 pub struct Outline {

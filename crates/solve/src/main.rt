@@ -4,10 +4,11 @@ mod answer;
 use answer::answer;
 use libc::STDIN_FILENO;
 use libc::STDOUT_FILENO;
+use sheet::sheet::BYTES_MOST;
 ghost use Rattle.solve.specs.Input.{Within};
 
 // One byte more than a sheet may have, so that a longer one is passed on as longer.
-const MOST: usize = 65537;
+const MOST: usize = BYTES_MOST + 1;
 
 enum Input {
     Bytes(usize),

@@ -18,14 +18,14 @@ pub models-computed :
 unfolding modelLine spacedAll spaced digits digitsIn inAtoms
 models-computed = refl
 
--- NONE, REFUSED 9 65536, and REFUSED 1 0
+-- NONE, REFUSED 8 65535, and REFUSED 1 0
 abbrev pub refusals : List (List ℕ)
 refusals =
     (78 ∷ 79 ∷ 78 ∷ 69 ∷ 10 ∷ [])
-    ∷ (82 ∷ 69 ∷ 70 ∷ 85 ∷ 83 ∷ 69 ∷ 68 ∷ 32 ∷ 57 ∷ 32 ∷ 54 ∷ 53 ∷ 53 ∷ 51 ∷ 54 ∷ 10 ∷ [])
+    ∷ (82 ∷ 69 ∷ 70 ∷ 85 ∷ 83 ∷ 69 ∷ 68 ∷ 32 ∷ 56 ∷ 32 ∷ 54 ∷ 53 ∷ 53 ∷ 51 ∷ 53 ∷ 10 ∷ [])
     ∷ (82 ∷ 69 ∷ 70 ∷ 85 ∷ 83 ∷ 69 ∷ 68 ∷ 32 ∷ 49 ∷ 32 ∷ 48 ∷ 10 ∷ [])
     ∷ []
 
-pub refusals-computed : (noneLine ∷ refusedLine 9 65536 ∷ refusedLine 1 0 ∷ []) ≡ refusals
+pub refusals-computed : (noneLine ∷ refusedLine 8 65535 ∷ refusedLine 1 0 ∷ []) ≡ refusals
 unfolding noneLine refusedLine spaced digits digitsIn
 refusals-computed = refl

@@ -7,7 +7,7 @@ ghost use Rattle.text.specs.Line.{modelLine, noneLine, refusedLine};
 ghost use Rattle.text.specs.Put.{lineMost, Room, RoomForModel, Puts, Holds};
 use rules::Atom;
 
-pub mod put;
+mod put;
 
 use put::put_atoms;
 use put::put_byte;

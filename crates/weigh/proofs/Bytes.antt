@@ -10,14 +10,12 @@ use borrow.Author.Tests.{eq-eqb, ne-eqb}
 use lib.Dec.{eqb}
 use lib.ListN.{length, getD, take, set, length-set, replicate, length-replicate, getD-replicate}
 use lib.Seq.{getD-set-same, getD-set-other}
-use Rattle.rules.specs.Limits.{atomsMost}
 use Rattle.rules.specs.Sum.{counted, tally}
 use Rattle.rules.specs.Rule.{Within}
 use Rattle.rules.specs.Map.{Map, IsMap, side, want, _⊑_}
 use Rattle.rules.proofs.Tests.{decided, T-eq, T-ne}
 use Rattle.rules.proofs.Maps.{want-decided}
 use Rattle.rules.proofs.Inside.{inside-true, inside-false, within?}
-use Rattle.table.specs.Rows.{Laid}
 use Rattle.weigh.specs.Step.{Proper, undecided}
 
 pub side-at : (n : ℕ) (m : List ℕ) (a : ℕ) → Within n a → side n m a ≡ getD m (a - 1) 0
@@ -126,8 +124,3 @@ module _ (k n : ℕ) (h : n ≤ k) where
       (λ (w : Within n a). side-at n (replicate k 0) a w ∙ getD-replicate k (a - 1) 0 0 (omega arith))
       (side-beyond n (replicate k 0) a)
       (within? n a)
-
--- a table's atoms are no more than the zeros that are made for them
-pub few : {c : List ℕ} {n count : ℕ} → Laid c n count → n ≤ 512
-unfolding atomsMost
-few l = l .fewAtoms

@@ -4,7 +4,8 @@ use denote.Ref.{now}
 use Prim.Native.Nat.{ℕ, _≤_}
 use mathlib.Core.Path.{sym, subst}
 use Rattle.forcing.proofs.Closings.{backed}
-use Rattle.weigh.proofs.Bytes.{few, blank-room, blank-side}
+use Rattle.rules.specs.Limits.{atomsMost}
+use Rattle.weigh.proofs.Bytes.{blank-room, blank-side}
 use Rattle.forcing.proofs.close.back_round.Statement.{statement}
 use Rattle.forcing.proofs.close.back_round.Tie as tie
 
@@ -12,14 +13,15 @@ slice-aggregate-count-all : tie.Need-slice-aggregate-count-all
 slice-aggregate-count-all c = search needs
 
 count-all-requires : tie.Need-count-all-requires
+unfolding atomsMost
 count-all-requires c κs = (
   c .before .before .before .before .pre .0,
   (
     c .before .before .before .before .pre .1 .room,
     (
-      blank-room 512 _ (few (c .before .before .before .before .pre .0)),
-      λ x w. blank-side 512 _
-          (few (c .before .before .before .before .pre .0)) x,
+      blank-room atomsMost _ (c .before .before .before .before .pre .0 .fewAtoms),
+      λ x w. blank-side atomsMost _
+          (c .before .before .before .before .pre .0 .fewAtoms) x,
     ),
   ),
 )
@@ -28,12 +30,13 @@ slice-aggregate-back-all : tie.Need-slice-aggregate-back-all
 slice-aggregate-back-all c = search needs
 
 back-all-requires : tie.Need-back-all-requires
+unfolding atomsMost
 back-all-requires c κs = (
   c .before .before .before .before .before .before .before .before .pre .0,
   (
     subst (λ (x : ℕ). c .before .before .before .before .before .before .before .before .args .n ≤ x)
         (sym (c .before .before .before .count-all .kept .1 .1 .1 .1 .0))
-        (blank-room 512 _ (few (c .before .before .before .before .before .before .before .before .pre .0))),
+        (blank-room atomsMost _ (c .before .before .before .before .before .before .before .before .pre .0 .fewAtoms)),
     (c .before .before .before .before .before .before .before .before .pre .1, c .before .before .before .count-all .ensures),
   ),
 )

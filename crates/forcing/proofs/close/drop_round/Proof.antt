@@ -2,7 +2,8 @@
 use borrow.Author.Needs.{needs}
 use denote.Ref.{now}
 use Rattle.forcing.proofs.Closings.{dropped}
-use Rattle.weigh.proofs.Bytes.{few, blank-proper, blank-side}
+use Rattle.rules.specs.Limits.{atomsMost}
+use Rattle.weigh.proofs.Bytes.{blank-proper, blank-side}
 use Rattle.forcing.proofs.close.drop_round.Statement.{statement}
 use Rattle.forcing.proofs.close.drop_round.Tie as tie
 
@@ -10,14 +11,15 @@ slice-aggregate-founded : tie.Need-slice-aggregate-founded
 slice-aggregate-founded c = search needs
 
 founded-requires : tie.Need-founded-requires
+unfolding atomsMost
 founded-requires c κs = (
   c .before .before .before .before .pre .0,
   (
     c .before .before .before .before .pre .1,
     record {
-      proper = blank-proper 512 _ (few (c .before .before .before .before .pre .0));
-      blank = blank-side 512 _
-          (few (c .before .before .before .before .pre .0));
+      proper = blank-proper atomsMost _ (c .before .before .before .before .pre .0 .fewAtoms);
+      blank = blank-side atomsMost _
+          (c .before .before .before .before .pre .0 .fewAtoms);
     },
   ),
 )

@@ -1,0 +1,70 @@
+-- The coding of the calls' answers for Rust and C: one number of 64 bits, a top of 24 bits times 2^40 and a value of 40. No
+-- refusal has a number above 14 or a place above 65,536, no sheet more than 512 atoms or 2,048 rules, and a margin lies from
+-- -268,435,455 to 1,024,000,000, so that no remainder here loses anything.
+use Prim.Native.Nat.{ℕ, suc, _+_, _-_, _*_, _%_, _^_}
+use mathlib.Core.Path.{_≡_}
+use lib.IntN.{ℤ, pos, negsuc}
+use Rattle.numbers.specs.declared.Refusal.{Refusal}
+use Rattle.desk.specs.declared.Checked.{Checked}
+use Rattle.desk.specs.declared.Checked.the-variants.{Accepted, Refused as RefusedSheet}
+use Rattle.desk.specs.declared.Part.{Part}
+use Rattle.desk.specs.declared.Part.the-variants.{Value, Nothing, Refused as RefusedPart}
+use Rattle.desk.specs.declared.Opened.{Opened}
+use Rattle.desk.specs.declared.Opened.the-variants.{Closed, Contradiction, Refused as RefusedMap}
+use Rattle.desk.specs.declared.Solved.{Solved}
+use Rattle.desk.specs.declared.Solved.the-variants.{Model, NoModel, Refused as RefusedSolve}
+use Rattle.desk.specs.declared.Tested.{Tested}
+use Rattle.desk.specs.declared.Tested.the-variants.{Stable, NotStable, Refused as RefusedTest}
+use Rattle.desk.specs.declared.Margin.{Margin}
+use Rattle.desk.specs.declared.Margin.the-variants.{Is, Refused as RefusedMargin}
+
+-- top * 2^40 + value
+unfoldable pub code : ℕ → ℕ → ℕ
+code top value = top % 2 ^ 24 * 2 ^ 40 + value % 2 ^ 40
+
+-- n * 2^16 + rules
+unfoldable pub counts : ℕ → ℕ → ℕ
+counts n rules = n % 2 ^ 16 * 2 ^ 16 + rules % 2 ^ 16
+
+-- margin + 2^32
+unfoldable pub raised : ℤ → ℕ
+raised (pos k) = 2 ^ 32 + k
+raised (negsuc k) = 2 ^ 32 - suc k
+
+-- refusal k at place p
+abbrev pub codeRefusal : Refusal → ℕ
+codeRefusal why = code (why .number) (why .place)
+
+abbrev pub codeChecked : Checked → ℕ
+codeChecked (Accepted n rules) = code 32 (counts n rules)
+codeChecked (RefusedSheet why) = codeRefusal why
+
+abbrev pub codeOpened : Opened → ℕ
+codeOpened (Closed undecided) = code 33 undecided
+codeOpened Contradiction = code 34 0
+codeOpened (RefusedMap why) = codeRefusal why
+
+abbrev pub codeSolved : Solved → ℕ
+codeSolved Model = code 35 0
+codeSolved NoModel = code 36 0
+codeSolved (RefusedSolve why) = codeRefusal why
+
+abbrev pub codeTested : Tested → ℕ
+codeTested Stable = code 37 0
+codeTested NotStable = code 38 0
+codeTested (RefusedTest why) = codeRefusal why
+
+abbrev pub codeMargin : Margin → ℕ
+codeMargin (Is margin) = code 39 (raised margin)
+codeMargin (RefusedMargin why) = codeRefusal why
+
+abbrev pub codePart : Part → ℕ
+codePart (Value value) = code 40 value
+codePart Nothing = code 41 0
+codePart (RefusedPart why) = codeRefusal why
+
+-- r hands on an answer that meets the call's promise
+pub record Hands {A : Type 0} (Promised : A → Type 0) (coding : A → ℕ) (r : ℕ) : Type 0 where
+  pub answer : A
+  pub promised : Promised answer
+  pub coded : r ≡ coding answer

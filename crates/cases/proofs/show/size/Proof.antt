@@ -1,0 +1,27 @@
+-- `size` is safe: each step fits, by the sign of the margin.
+use borrow.Author.Needs.{needs}
+use native.Mathlib.Omega.{arith}
+use Rattle.archive.proofs.Raises.{up-cast, down-difference, down-cast, down-small}
+use Rattle.cases.proofs.show.size.Statement.{statement}
+use Rattle.cases.proofs.show.size.Tie as tie
+
+cast-result : tie.Need-cast-result
+cast-result c = up-cast (c .before .args .margin) (c .before .good .0) (c .if1 .taken)
+
+returns : tie.Need-returns
+returns c = search needs
+
+sub-result : tie.Need-sub-result
+sub-result c = down-difference (c .before .args .margin) (c .before .good .0) (c .if1 .left)
+
+cast-result-2 : tie.Need-cast-result-2
+cast-result-2 c = down-cast (c .before .args .margin) (c .before .good .0) (c .if1 .left)
+
+add-result : tie.Need-add-result
+add-result c = record { fits = omega (arith, down-small (c .before .args .margin) (c .before .good .0) (c .if1 .left)) }
+
+returns-2 : tie.Need-returns-2
+returns-2 c = search needs
+
+pub size-spec : {M : Type 1} → statement M
+size-spec = tie.close (tie.spec cast-result returns sub-result cast-result-2 add-result returns-2)
