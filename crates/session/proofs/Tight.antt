@@ -1,5 +1,5 @@
--- Tight: two sessions and answers that meet one promise for the same session and sheet are equal, in the answer and in every byte of
--- the map, since the promise is that of the call on a lent map, which is tight. A session is its map.
+-- Tight: two sessions and answers that meet one promise for the same session and sheet are equal, in the answer and in every byte
+-- of the map, since the promise is that of the call on a lent map, which is tight. A session is its map.
 use Prim.Native.Nat.{ℕ}
 use mathlib.Core.Path.{_≡_, sym, _∙_, ap}
 use mathlib.Core.List.{List}
