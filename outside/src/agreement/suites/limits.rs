@@ -11,7 +11,7 @@ use crate::sheet::{
 };
 
 /// What stands at a limit, just below and just above it.
-pub const LIMITS: [fn(&Desk) -> Outcome; 9] = [
+pub const LIMITS: [fn(&Desk) -> Outcome; 10] = [
     wide_numbers,
     map_length,
     rule_count,
@@ -20,6 +20,7 @@ pub const LIMITS: [fn(&Desk) -> Outcome; 9] = [
     widest_margins,
     longest_bodies,
     longest_chain,
+    deepest_search,
     sheet_length,
 ];
 
@@ -105,6 +106,21 @@ fn widest_margins(desk: &Desk) -> Outcome {
         table.answers(Call::Margin { rule }, &map, &wanted)?;
     }
     on_long_map(desk, &sheet)
+}
+
+/// A guess for each of 512 atoms: all may be taken; and 511 may be taken, but not all of them.
+fn deepest_search(desk: &Desk) -> Outcome {
+    let all = (1..=MOST_ATOMS).collect::<Vec<_>>();
+    let (last, others) = (MOST_ATOMS, &all[..MOST_ATOMS - 1]);
+    let free = vec![choice(&all, &[], &[])];
+    let not_all = vec![choice(others, &[], &[]), basic(last, others, &[last])];
+    for (rules, taken) in [(free, MOST_ATOMS), (not_all, MOST_ATOMS - 2)] {
+        let sheet = Sheet { atoms: MOST_ATOMS, rules, ..Sheet::default() }.bytes();
+        let map = all.iter().map(|&atom| if atom <= taken { 1 } else { 2 }).collect();
+        let wanted = After { code: Answer::Model.code(), map };
+        Table { desk, sheet: &sheet }.answers(Call::Solve, &[0; MOST_ATOMS], &wanted)?;
+    }
+    Ok(())
 }
 
 fn longest_bodies(desk: &Desk) -> Outcome {
