@@ -28,7 +28,7 @@ use Rattle.desk.specs.Gate.{Gate, stop, go, Fault, at, none, sheetThen, 
 use Rattle.desk.specs.Promise.{Pins, PinsBy, PinEnds, Ends, Asked, pinned}
 use Rattle.desk.specs.Bytes.{Copied, Room}
 use Rattle.desk.specs.Held.{signed}
-use Rattle.desk.specs.Work.{Coded, Finishes, With, Hands}
+use Rattle.desk.specs.Work.{Presses, Hands}
 use Rattle.desk.specs.declared.Opened.{Opened}
 use Rattle.desk.specs.declared.Opened.the-variants.{Contradiction as Contradicted, Refused as RefusedMap}
 use Rattle.desk.proofs.Faults.{fault-none}
@@ -37,17 +37,16 @@ use Rattle.desk.proofs.Works.{ends, copied-side}
 
 -- the end of the work is the end of the pin
 pub pin-ends :
-    {s : List ℕ} {o : Outline} {c : List ℕ} {a : ℕ} (v : ℕ) {m start w w′ m′ : List ℕ} (x : Closing) (r : Opened)
-    → Coded s o c (o .atoms) (o .rules .value) → Copied (o .atoms) m start w → Room (o .atoms) w′ m
-    → Finishes (rulesAt c (o .rules .value)) (o .atoms) (With (o .atoms) w (signed (eqb v 1) a ∷ [])) w w′ x
-    → Hands (o .atoms) x w′ m m′ r → PinEnds false (sheetMeant s o) m a v m′ r
+    (s : List ℕ) (o : Outline) {a : ℕ} (v : ℕ) {m start w w′ m′ : List ℕ} (x : Closing) (r : Opened) → Copied (o .atoms) m start w
+    → Room (o .atoms) w′ m → Presses (sheetMeant s o) a (eqb v 1) w w′ x → Hands (o .atoms) x w′ m m′ r
+    → PinEnds false (sheetMeant s o) m a v m′ r
 unfolding sheetMeant
-pin-ends {s} {o} {c} {a} v {m} {start} {w} x r cd k room f h =
+pin-ends s o {a} v {m} {start} {w} x r k room f h =
     ends
     (sheetMeant s o)
     x
     r
-    (cd .rules)
+    refl
     refl
     room
     (λ X q. (subst (λ (M : Map). M ⊑ X) (sym e) (q .0), q .1))

@@ -24,19 +24,19 @@ use Rattle.sheet.specs.Sheet.{checkOf}
 use Rattle.sheet.specs.Meaning.{sheetMeant}
 use Rattle.sheet.specs.declared.sheet.Outline.{Outline}
 use Rattle.sheet.specs.declared.sheet.Checked.the-variants.{Accepted, Refused}
-use Rattle.table.specs.Rows.{rulesAt}
+use Rattle.sheet.proofs.sheet.Written.{meant}
 use Rattle.weigh.specs.Step.{Proper}
 use Rattle.forcing.specs.declared.Closing.{Closing}
 use Rattle.forcing.specs.declared.Closing.the-variants.{NoneHolds, ClosedWith}
 use Rattle.desk.specs.Gate.{Gate, stop, go, Fault, at, none, sheetThen, roomThen, faultThen, modelFault, testGate}
 use Rattle.desk.specs.Promise.{Tests, TestsBy}
 use Rattle.desk.specs.Bytes.{Copied}
-use Rattle.desk.specs.Work.{Coded, Finishes, With}
+use Rattle.desk.specs.Work.{With, Settles}
 use Rattle.desk.specs.declared.Tested.{Tested}
 use Rattle.desk.specs.declared.Tested.the-variants.{Stable as IsStable, NotStable, Refused as RefusedTest}
 use Rattle.desk.proofs.Faults.{fault-none}
 use Rattle.desk.proofs.Gates.{gate-stop, gate-on, room-stop, room-on, fault-stop, fault-on}
-use Rattle.desk.proofs.Solving.{tabled, same, ok}
+use Rattle.desk.proofs.Sheets.{numbered}
 use Rattle.desk.proofs.Works.{copied-side}
 
 -- every byte is 1 or 2
@@ -88,19 +88,18 @@ module _ (n : ℕ) {m start w : List ℕ} (e : modelFault n m ≡ none) (k : Cop
           (ne-T (λ z. want-apart true (sym z ∙ h)))
 
 module _
-    {s : List ℕ} {o : Outline} {c : List ℕ} (cd : Coded s o c (o .atoms) (o .rules .value)) {m start w : List ℕ}
+    (s : List ℕ) (o : Outline) (accepted : checkOf s ≡ Accepted o) {m start w : List ℕ}
     (e : modelFault (o .atoms) m ≡ none) (k : Copied (o .atoms) m start w)
   where
-    onward : (M : Map) → side (o .atoms) w ≡ M → Model (tabled cd) (is 1 M) → Model (sheetMeant s o) (is 1 (side (o .atoms) m))
+    ok : Numbered (sheetMeant s o)
+    ok = numbered s (sheetMeant s o) (meant s o accepted)
+
+    onward : (M : Map) → side (o .atoms) w ≡ M → Model (sheetMeant s o) (is 1 M) → Model (sheetMeant s o) (is 1 (side (o .atoms) m))
     onward M h md =
-        subst
-        (λ (x : Map). Model (sheetMeant s o) (is 1 x))
-        (sym (copied-side (o .atoms) m start w k ∙ h))
-        (subst (λ (t : Sheet). Model t (is 1 M)) (same cd) md)
+        subst (λ (x : Map). Model (sheetMeant s o) (is 1 x)) (sym (copied-side (o .atoms) m start w k ∙ h)) md
 
     pub tested-closed :
-        {w′ : List ℕ} (u : ℕ) → Finishes (rulesAt c (o .rules .value)) (o .atoms) (With (o .atoms) w (computed (sheetMeant s o))) w w′ (ClosedWith u)
-        → TestsBy (go (sheetMeant s o)) m IsStable
+        {w′ : List ℕ} (u : ℕ) → Settles (sheetMeant s o) w w′ (ClosedWith u) → TestsBy (go (sheetMeant s o)) m IsStable
     unfolding sheetMeant
     tested-closed {w′} u f =
         record {
@@ -109,35 +108,32 @@ module _
               (side (o .atoms) w′)
               e′
               (record {
-                stable = closed-stable (ok cd .rules) (l .closed) (λ a v z. whole (o .atoms) e k a v (ap (λ (M : Map). M a) e′ ∙ z));
-                agrees = holding-agrees (tabled cd) (side (o .atoms) w′) (l .holding .1);
+                stable = closed-stable (ok .rules) (l .closed) (λ a v z. whole (o .atoms) e k a v (ap (λ (M : Map). M a) e′ ∙ z));
+                agrees = holding-agrees (sheetMeant s o) (side (o .atoms) w′) (l .holding .1);
               });
         }
       where
-        l : Least (rulesAt c (o .rules .value)) (o .atoms) (With (o .atoms) w (computed (sheetMeant s o))) (side (o .atoms) w′)
+        l : Least (sheetMeant s o .rules) (o .atoms) (With (o .atoms) w (computed (sheetMeant s o))) (side (o .atoms) w′)
         l = f .finish .0
 
         e′ : side (o .atoms) w ≡ side (o .atoms) w′
         e′ = above-same (o .atoms) e k (side (o .atoms) w′) (l .closed .isMap) (l .holding .0)
 
     pub tested-none :
-        {w′ : List ℕ} → Finishes (rulesAt c (o .rules .value)) (o .atoms) (With (o .atoms) w (computed (sheetMeant s o))) w w′ NoneHolds → TestsBy (go (sheetMeant s o)) m NotStable
+        {w′ : List ℕ} → Settles (sheetMeant s o) w w′ NoneHolds → TestsBy (go (sheetMeant s o)) m NotStable
     unfolding sheetMeant
     tested-none f =
         record {
           promise =
               λ md.
               let
-              back : Model (tabled cd) (is 1 (side (o .atoms) w))
-              = subst
-              (λ (x : Map). Model (tabled cd) (is 1 x))
-              (copied-side (o .atoms) m start w k)
-              (subst (λ (t : Sheet). Model t (is 1 (side (o .atoms) m))) (sym (same cd)) md)
+              back : Model (sheetMeant s o) (is 1 (side (o .atoms) w))
+              = subst (λ (x : Map). Model (sheetMeant s o) (is 1 x)) (copied-side (o .atoms) m start w k) md
               in
               f .finish
               (total (o .atoms) (is 1 (side (o .atoms) w)))
-              (model-closed (ok cd) back)
-              (below-total (o .atoms) e k, model-holding (ok cd) back);
+              (model-closed ok back)
+              (below-total (o .atoms) e k, model-holding ok back);
         }
 
 -- test by its gate

@@ -11,7 +11,8 @@ use lib.Dec.{eqb}
 use Rattle.rules.specs.Sum.{tally}
 use Rattle.rules.specs.Rule.{Rule, Sheet, Within, Numbered}
 use Rattle.rules.specs.Map.{Map, Literal, side, _⊑_}
-use Rattle.rules.specs.Forcing.{Least, Contradiction, computed}
+use Rattle.rules.specs.Limits.{atomsMost, bytesMost}
+use Rattle.rules.specs.Forcing.{Least, Contradiction}
 use Rattle.rules.proofs.Maps.{want-decided}
 use Rattle.rules.proofs.Bytes.{side-same}
 use Rattle.rules.proofs.Least.{holding-append, holding-left, holding-right, least-same, contradiction-same}
@@ -21,6 +22,8 @@ use Rattle.sheet.specs.Sheet.{checkOf}
 use Rattle.sheet.specs.declared.sheet.Outline.{Outline}
 use Rattle.sheet.specs.declared.sheet.Checked.the-variants.{Accepted}
 use Rattle.sheet.proofs.sheet.Written.{meant}
+use Rattle.sheet.proofs.sheet.Ran.{sheet-ran}
+use Rattle.table.specs.Words.{pairWidth}
 use Rattle.table.specs.Rows.{rulesAt}
 use Rattle.weigh.specs.Step.{Proper, Kept, undecided}
 use Rattle.forcing.specs.Close.{ClosedAs, ClosesMap}
@@ -33,7 +36,7 @@ use Rattle.desk.specs.Held.{Above, Takes, Listed}
 use Rattle.desk.specs.Gate.{go}
 use Rattle.desk.specs.Promise.{Ends, OpensBy, Written, threes}
 use Rattle.desk.specs.Bytes.{Copied, Room}
-use Rattle.desk.specs.Work.{Sheeted, Coded, Finish, Finishes, With, Hands}
+use Rattle.desk.specs.Work.{Sheeted, Coded, Finish, Finishes, With, Settles, Hands}
 use Rattle.desk.specs.declared.Opened.{Opened}
 use Rattle.desk.specs.declared.Opened.the-variants.{Closed as ClosedAnswer, Contradiction as Contradicted}
 use Rattle.desk.proofs.Sheets.{numbered}
@@ -197,8 +200,25 @@ pub coded :
     {s : List ℕ} {o : Outline} {c c′ : List ℕ} → checkOf s ≡ Accepted o → Decoded s o c c′ → Coded s o c′ (o .atoms) (o .rules .value)
 coded e d = record { sheet = record { accepted = e; atoms = refl }; laid = d .laid; rules = d .rules }
 
-pub words-ready : {s : List ℕ} {o : Outline} → checkOf s ≡ Accepted o → ReadyWords s o (replicate tableWords 0)
-words-ready e = record { accepted = e; room = blank-room tableWords tableWords (omega arith) }
+module _ (s : List ℕ) (o : Outline) (e : checkOf s ≡ Accepted o) where
+  pub few-atoms : o .atoms ≤ atomsMost
+  unfolding sheetMeant
+  few-atoms = sheet-ran s o e .wellFormed .atoms
+
+  pub short-sheet : length s ≤ bytesMost
+  short-sheet = sheet-ran s o e .short
+
+  -- a blank table for sheets of so many bytes
+  pub words-ready : (most : ℕ) → length s ≤ most → ReadyWords s o (replicate (tableWords most) 0)
+  unfolding tableWords pairWidth
+  words-ready most h =
+      record { accepted = e; room = blank-room (tableWords most) (tableWords (length s)) (omega (arith, h)) }
+
+-- the rules of the table are those of the sheet
+pub finishes-by :
+    {P P′ : List Rule} {n : ℕ} {Q : Map → Type 0} {m m′ : List ℕ} {r : Closing} → P ≡ P′ → Finishes P n Q m m′ r
+    → Finishes P′ n Q m m′ r
+finishes-by {n = n} {Q} {m} {m′} {r} e f = subst (λ (x : List Rule). Finishes x n Q m m′ r) e f
 
 -- every map is above a map of zeros
 pub blank-below : (k n : ℕ) → n ≤ k → (X : Map) → side n (replicate k 0) ⊑ X
@@ -207,31 +227,13 @@ blank-below k n h X =
 
 -- open, put together
 pub opened :
-    {s : List ℕ} {o : Outline} {c : List ℕ} {k : ℕ} {work m m′ : List ℕ} (x : Closing) (r : Opened)
-    → Coded s o c (o .atoms) (o .rules .value) → o .atoms ≤ k → Room (o .atoms) work m
-    → Finishes
-    (rulesAt c (o .rules .value))
-    (o .atoms)
-    (With (o .atoms) (replicate k 0) (computed (sheetMeant s o)))
-    (replicate k 0)
-    work
-    x
-    → Hands (o .atoms) x work m m′ r → OpensBy (go (sheetMeant s o)) m m′ r
+    (s : List ℕ) (o : Outline) {k : ℕ} {work m m′ : List ℕ} (x : Closing) (r : Opened) → o .atoms ≤ k → Room (o .atoms) work m
+    → Settles (sheetMeant s o) (replicate k 0) work x → Hands (o .atoms) x work m m′ r → OpensBy (go (sheetMeant s o)) m m′ r
 unfolding sheetMeant
-opened {s} {o} {c} {k} x r cd few room f h =
+opened s o {k} x r few room f h =
     record {
       promise =
-          ends
-          (sheetMeant s o)
-          x
-          r
-          (cd .rules)
-          refl
-          room
-          (λ X q. q .1)
-          (λ X q. (blank-below k (o .atoms) few X, q))
-          f
-          h;
+          ends (sheetMeant s o) x r refl refl room (λ X q. q .1) (λ X q. (blank-below k (o .atoms) few X, q)) f h;
     }
 
 -- a finish whose case is known

@@ -31,8 +31,12 @@ pub record Pinnable (s : List ℕ) (o : Outline) (a : ℕ) (m : List ℕ) : Type
   pub ready : PinReady s o a m
   pub proper : Proper (o .atoms) m
 
--- an atom of a table's sheet and a map of its own
-pub record Pressable (c : List ℕ) (n count a : ℕ) (m : List ℕ) : Type 0 where
-  pub laid : Laid c n count
+-- an atom and a map of its own
+pub record Pinned (n a : ℕ) (m : List ℕ) : Type 0 where
   pub within : Within n a
   pub proper : Proper n m
+
+-- and the table of the sheet
+pub record Pressable (c : List ℕ) (n count a : ℕ) (m : List ℕ) : Type 0 where
+  pub laid : Laid c n count
+  pub pinned : Pinned n a m

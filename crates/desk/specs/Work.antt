@@ -2,10 +2,11 @@
 -- lent map once, at the end.
 use Prim.Native.Nat.{ℕ}
 use mathlib.Core.Path.{_≡_}
-use mathlib.Core.List.{List}
-use Rattle.rules.specs.Rule.{Rule}
+use mathlib.Core.Bool.{Bool}
+use mathlib.Core.List.{List, [], _∷_}
+use Rattle.rules.specs.Rule.{Rule, Sheet}
 use Rattle.rules.specs.Map.{Map, Literal, Holding, side, _⊑_}
-use Rattle.rules.specs.Forcing.{Least, Contradiction}
+use Rattle.rules.specs.Forcing.{Least, Contradiction, computed}
 use Rattle.sheet.specs.Sheet.{checkOf}
 use Rattle.sheet.specs.Meaning.{sheetMeant}
 use Rattle.sheet.specs.declared.sheet.Outline.{Outline}
@@ -15,6 +16,7 @@ use Rattle.weigh.specs.Step.{Kept, undecided}
 use Rattle.forcing.specs.declared.Closing.{Closing}
 use Rattle.forcing.specs.declared.Closing.the-variants.{NoneHolds, ClosedWith}
 use Rattle.desk.specs.Promise.{threes}
+use Rattle.desk.specs.Held.{signed}
 use Rattle.desk.specs.Bytes.{Copied}
 use Rattle.desk.specs.declared.Opened.{Opened}
 use Rattle.desk.specs.declared.Opened.the-variants.{Closed as ClosedAnswer, Contradiction as Contradicted}
@@ -42,6 +44,14 @@ pub record Finishes (P : List Rule) (n : ℕ) (Q : Map → Type 0) (m m′ : Lis
 -- what a work map asks together with some literals
 abbrev pub With : ℕ → List ℕ → List Literal → Map → Type 0
 With n m ps X = (side n m ⊑ X) × Holding ps X
+
+-- the compute lists of a sheet, held on a work map and closed under its rules
+abbrev pub Settles : Sheet → List ℕ → List ℕ → Closing → Type 0
+Settles sh m m′ r = Finishes (sh .rules) (sh .atoms) (With (sh .atoms) m (computed sh)) m m′ r
+
+-- one pin, held so and closed
+abbrev pub Presses : Sheet → ℕ → Bool → List ℕ → List ℕ → Closing → Type 0
+Presses sh a inside m m′ r = Finishes (sh .rules) (sh .atoms) (With (sh .atoms) m (signed inside a ∷ [])) m m′ r
 
 -- the answer, and the work map copied, or n bytes of 3
 abbrev pub Hand : ℕ → Closing → List ℕ → List ℕ → List ℕ → Opened → Type 0

@@ -2,6 +2,8 @@
 use super::Margin;
 use super::scan::is_threes;
 use super::scan::map_fault;
+use decode::FEW_BYTES;
+use decode::FEW_WORDS;
 use decode::WORDS;
 use decode::decode;
 use numbers::Refusal;
@@ -12,21 +14,34 @@ use sheet::sheet::Outline;
 use sheet::sheet::check;
 use weigh::margin as margin_of;
 ghost use Rattle.sheet.specs.Meaning.{sheetMeant};
+ghost use Rattle.decode.specs.Decode.{Ready as Table};
 ghost use Rattle.desk.specs.Gate.{go};
 ghost use Rattle.desk.specs.Promise.{Margins, MarginsBy};
 ghost use Rattle.desk.specs.Ready.{Ready};
 ghost use Rattle.desk.specs.Ask.{ReadyRule, mapLeft, ruleLeft};
 
-// The rule's row of the table, weighed on the map.
+// The rule's row of the table, weighed on the map, with a table lent for the sheet's rules.
+fn margin_on(s: &[u8], sheet: Outline, code: &mut [u32], map: &[u8], rule: RuleNo) -> Margin
+    requires { ⌜ Table (now s) sheet (now code) × ReadyRule (now s) sheet (now map) (rule .number) ⌝ }
+    ensures { λ r. ⌜ MarginsBy (go (sheetMeant (now (s .entry)) sheet)) (now (map .entry)) (rule .number) r ⌝ }
+{
+    decode(s, sheet, code);
+    let n = sheet.atoms;
+    let row = rule.number - RuleNo::FIRST;
+    Margin::Is(margin_of(code, n as u32, row as u32, map))
+}
+
+// The same with a table of its own, a small one for a short sheet.
 fn margin_table(s: &[u8], sheet: Outline, map: &[u8], rule: RuleNo) -> Margin
     requires { ⌜ ReadyRule (now s) sheet (now map) (rule .number) ⌝ }
     ensures { λ r. ⌜ MarginsBy (go (sheetMeant (now (s .entry)) sheet)) (now (map .entry)) (rule .number) r ⌝ }
 {
+    if s.len() <= FEW_BYTES {
+        let mut code = [0u32; FEW_WORDS];
+        return margin_on(s, sheet, &mut code, map, rule);
+    }
     let mut code = [0u32; WORDS];
-    decode(s, sheet, &mut code);
-    let n = sheet.atoms;
-    let row = rule.number - RuleNo::FIRST;
-    Margin::Is(margin_of(&code, n as u32, row as u32, map))
+    margin_on(s, sheet, &mut code, map, rule)
 }
 
 // 12, and 14: "margin asked on a contradiction".

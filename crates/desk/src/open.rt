@@ -1,9 +1,7 @@
 // Open.
 use super::Opened;
 use super::work::hand_over;
-use super::work::settle;
-use decode::WORDS;
-use decode::decode;
+use super::work::settle_sheet;
 use numbers::Refusal;
 use rules::Atom;
 use sheet::sheet::Checked;
@@ -19,13 +17,9 @@ fn open_sheet(s: &[u8], sheet: Outline, map: &mut [u8]) -> Opened
     requires { ⌜ Ready (now s) sheet (now map) ⌝ }
     ensures { λ r. ⌜ OpensBy (go (sheetMeant (now (s .entry)) sheet)) (now (map .entry)) (now (map .exit)) r ⌝ }
 {
-    let mut code = [0u32; WORDS];
-    decode(s, sheet, &mut code);
-    let rules = sheet.rules;
-    let n = sheet.atoms;
     let mut work = [0u8; Atom::LAST];
-    let closing = settle(s, sheet, &code, n as u32, rules.value as u32, &mut work);
-    hand_over(closing, &work, n, map)
+    let closing = settle_sheet(s, sheet, &mut work);
+    hand_over(closing, &work, sheet.atoms, map)
 }
 
 // "Open: writes the smallest closed map holding the compute lists."

@@ -5,6 +5,8 @@ use super::held::hold_atom;
 use super::scan::is_threes;
 use super::scan::map_fault;
 use super::work::hand_over;
+use decode::FEW_BYTES;
+use decode::FEW_WORDS;
 use decode::WORDS;
 use decode::decode;
 use forcing::Closing;
@@ -15,15 +17,19 @@ use rules::AtomOr;
 use sheet::sheet::Checked;
 use sheet::sheet::Outline;
 use sheet::sheet::check;
+ghost use mathlib.Core.Path.{_≡_};
 ghost use mathlib.Core.Bool.{false};
 ghost use mathlib.Core.List.{[], _∷_};
+ghost use Rattle.sheet.specs.Sheet.{checkOf};
 ghost use Rattle.sheet.specs.Meaning.{sheetMeant};
+ghost use Rattle.sheet.specs.declared.sheet.Checked.the-variants.{Accepted};
+ghost use Rattle.decode.specs.Decode.{Ready as Table};
 ghost use Rattle.table.specs.Rows.{rulesAt};
 ghost use Rattle.desk.specs.Gate.{go, mapFault, faultThen, pinThen};
 ghost use Rattle.desk.specs.Held.{signed};
 ghost use Rattle.desk.specs.Promise.{Pins, PinsBy, PinEnds};
-ghost use Rattle.desk.specs.Work.{Finishes, With};
-ghost use Rattle.desk.specs.Ready.{Ready, PinReady, Pinnable, Pressable};
+ghost use Rattle.desk.specs.Work.{Finishes, With, Presses};
+ghost use Rattle.desk.specs.Ready.{Ready, PinReady, Pinnable, Pinned, Pressable};
 
 // The smallest closed map above a map that has the atom on a side.
 fn press(code: &[u32], n: u32, count: u32, atom: u32, inside: bool, m: &mut [u8]) -> Closing
@@ -36,25 +42,46 @@ fn press(code: &[u32], n: u32, count: u32, atom: u32, inside: bool, m: &mut [u8]
     Closing::NoneHolds
 }
 
+// The same from the sheet alone, with a table lent for its rules.
+fn press_on(
+    s: &[u8],
+    sheet: Outline,
+    code: &mut [u32],
+    atom: usize,
+    inside: bool,
+    m: &mut [u8],
+) -> Closing
+    requires { ⌜ Table (now s) sheet (now code) × Pinned (sheet .atoms) atom (now m) ⌝ }
+    ensures { λ r. ⌜ Presses (sheetMeant (now (s .entry)) sheet) atom inside (now (m .entry)) (now (m .exit)) r ⌝ }
+{
+    decode(s, sheet, code);
+    let rules = sheet.rules;
+    let n = sheet.atoms;
+    press(code, n as u32, rules.value as u32, atom as u32, inside, m)
+}
+
+// The same with a table of its own, a small one for a short sheet.
+fn press_sheet(s: &[u8], sheet: Outline, atom: usize, inside: bool, m: &mut [u8]) -> Closing
+    requires { ⌜ checkOf (now s) ≡ Accepted sheet × Pinned (sheet .atoms) atom (now m) ⌝ }
+    ensures { λ r. ⌜ Presses (sheetMeant (now (s .entry)) sheet) atom inside (now (m .entry)) (now (m .exit)) r ⌝ }
+{
+    if s.len() <= FEW_BYTES {
+        let mut code = [0u32; FEW_WORDS];
+        return press_on(s, sheet, &mut code, atom, inside, m);
+    }
+    let mut code = [0u32; WORDS];
+    press_on(s, sheet, &mut code, atom, inside, m)
+}
+
 // Pin an atom of an accepted sheet on a map of 0s, 1s and 2s.
 fn pin_atom(s: &[u8], sheet: Outline, atom: usize, side: usize, map: &mut [u8]) -> Opened
     requires { ⌜ Pinnable (now s) sheet atom (now map) ⌝ }
     ensures { λ r. ⌜ PinEnds false (sheetMeant (now (s .entry)) sheet) (now (map .entry)) atom side (now (map .exit)) r ⌝ }
 {
-    let mut code = [0u32; WORDS];
-    decode(s, sheet, &mut code);
-    let rules = sheet.rules;
     let n = sheet.atoms;
     let mut work = [0u8; Atom::LAST];
     copy(map, n, &mut work);
-    let closing = press(
-        &code,
-        n as u32,
-        rules.value as u32,
-        atom as u32,
-        side == 1,
-        &mut work,
-    );
+    let closing = press_sheet(s, sheet, atom, side == 1, &mut work);
     hand_over(closing, &work, n, map)
 }
 

@@ -3,6 +3,8 @@ use super::Solved;
 use super::bytes::copy;
 use super::bytes::write_threes;
 use super::work::settle;
+use decode::FEW_BYTES;
+use decode::FEW_WORDS;
 use decode::WORDS;
 use decode::decode;
 use forcing::Closing;
@@ -13,6 +15,7 @@ use sheet::sheet::Checked;
 use sheet::sheet::Outline;
 use sheet::sheet::check;
 ghost use Rattle.sheet.specs.Meaning.{sheetMeant};
+ghost use Rattle.decode.specs.Decode.{Ready as Table};
 ghost use Rattle.desk.specs.Gate.{go};
 ghost use Rattle.desk.specs.Promise.{Solves, SolvesBy};
 ghost use Rattle.desk.specs.Bytes.{Room};
@@ -32,25 +35,37 @@ fn hand_model(model: bool, found: &[u8], n: usize, map: &mut [u8]) -> Solved
     Solved::NoModel
 }
 
-// The first model of an accepted sheet, on a map with room for its atoms.
-fn solve_sheet(s: &[u8], sheet: Outline, map: &mut [u8]) -> Solved
-    requires { ⌜ Ready (now s) sheet (now map) ⌝ }
+// The first model of an accepted sheet, on a map with room for its atoms, with a table lent for its rules.
+fn solve_on(s: &[u8], sheet: Outline, code: &mut [u32], map: &mut [u8]) -> Solved
+    requires { ⌜ Table (now s) sheet (now code) × Ready (now s) sheet (now map) ⌝ }
     ensures { λ r. ⌜ SolvesBy (go (sheetMeant (now (s .entry)) sheet)) (now (map .entry)) (now (map .exit)) r ⌝ }
 {
-    let mut code = [0u32; WORDS];
-    decode(s, sheet, &mut code);
+    decode(s, sheet, code);
     let rules = sheet.rules;
     let n = sheet.atoms;
     let mut work = [0u8; Atom::LAST];
-    let closing = settle(s, sheet, &code, n as u32, rules.value as u32, &mut work);
+    let closing = settle(s, sheet, code, n as u32, rules.value as u32, &mut work);
     match closing {
         Closing::NoneHolds => hand_model(false, &work, n, map),
         Closing::ClosedWith(_) => {
-            let found = choose(&code, n as u32, rules.value as u32, work);
+            let found = choose(code, n as u32, rules.value as u32, work);
             let model = found.map;
             hand_model(found.model, &model, n, map)
         }
     }
+}
+
+// The same with a table of its own, a small one for a short sheet.
+fn solve_sheet(s: &[u8], sheet: Outline, map: &mut [u8]) -> Solved
+    requires { ⌜ Ready (now s) sheet (now map) ⌝ }
+    ensures { λ r. ⌜ SolvesBy (go (sheetMeant (now (s .entry)) sheet)) (now (map .entry)) (now (map .exit)) r ⌝ }
+{
+    if s.len() <= FEW_BYTES {
+        let mut code = [0u32; FEW_WORDS];
+        return solve_on(s, sheet, &mut code, map);
+    }
+    let mut code = [0u32; WORDS];
+    solve_on(s, sheet, &mut code, map)
 }
 
 // "Solve: the first agreeing stable model as a map of 1s and 2s, or none and n bytes of 3."

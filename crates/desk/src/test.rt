@@ -2,9 +2,7 @@
 use super::Tested;
 use super::bytes::copy;
 use super::scan::model_fault;
-use super::work::settle;
-use decode::WORDS;
-use decode::decode;
+use super::work::settle_sheet;
 use forcing::Closing;
 use numbers::Refusal;
 use rules::Atom;
@@ -22,13 +20,9 @@ fn test_model(s: &[u8], sheet: Outline, map: &[u8]) -> Tested
     requires { ⌜ Given (now s) sheet (now map) ⌝ }
     ensures { λ r. ⌜ TestsBy (go (sheetMeant (now (s .entry)) sheet)) (now (map .entry)) r ⌝ }
 {
-    let mut code = [0u32; WORDS];
-    decode(s, sheet, &mut code);
-    let rules = sheet.rules;
-    let n = sheet.atoms;
     let mut work = [0u8; Atom::LAST];
-    copy(map, n, &mut work);
-    let closing = settle(s, sheet, &code, n as u32, rules.value as u32, &mut work);
+    copy(map, sheet.atoms, &mut work);
+    let closing = settle_sheet(s, sheet, &mut work);
     match closing {
         Closing::NoneHolds => Tested::NotStable,
         Closing::ClosedWith(_) => Tested::Stable,

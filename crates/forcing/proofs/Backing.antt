@@ -2,24 +2,25 @@
 use Prim.Native.Nat.{ℕ, _+_, _-_, _≤_, _<_}
 use mathlib.Core.Path.{_≡_, refl, sym, _∙_, ap, subst}
 use mathlib.Core.Bool.{Bool, true, false}
-use mathlib.Core.Logic.{⊎-elim}
 use mathlib.Core.List.{List, List·Memᴰ}
-use native.Mathlib.Nat.{eq-or-lt-of-le}
 use native.Mathlib.Omega.{arith}
+use borrow.Author.Tests.{eq-eqb}
 use lib.Dec.{T}
+use Rattle.rules.specs.Sum.{counted}
 use Rattle.rules.specs.Rule.{Rule, Within}
-use Rattle.rules.specs.Map.{Map, side, want, reach, _⊑_}
+use Rattle.rules.specs.Map.{Map, side, is, want, reach, _⊑_}
 use Rattle.rules.specs.Forcing.{Closed, supports, supporters}
 use Rattle.rules.proofs.Sum.{tally-mono, count-some}
 use Rattle.rules.proofs.Maps.{reach-falls, decided-within}
 use Rattle.rules.proofs.Forced.{supports-head, supports-reach, to-supports, forced-second}
 use Rattle.table.specs.Words.{atomAt}
 use Rattle.table.specs.Rows.{headsAt, positivesAt, needAt, ruleAt}
-use Rattle.table.proofs.Words.{Listed, atoms-listed, atoms-has}
+use Rattle.table.proofs.Words.{atoms-has}
 use Rattle.weigh.specs.declared.Outcome.{Outcome}
 use Rattle.weigh.specs.declared.Outcome.the-variants.{Same}
 use Rattle.weigh.specs.Press.{aim, Pressed, Due, PressesBody}
 use Rattle.forcing.specs.Support.{Counts, Backed, Lone, NotLone, Tells, TellsAt, BackAsks, Backs}
+use Rattle.forcing.proofs.HeadScans.{Sofar, scan-more, scan-end}
 use Rattle.weigh.proofs.Bytes.{proper-map}
 use Rattle.weigh.proofs.Steps.{kept-refl, step-same, quieter}
 
@@ -52,26 +53,13 @@ module _ (c : List ℕ) (n i : ℕ) (M : Map) (counts : List ℕ) where
       }
 
   pub lone-more :
-      (j : ℕ) (b : Bool) → headsAt c i ≤ j → b ≡ false → TellsAt n M counts (atomAt c j) b
-      → ((k : ℕ) → headsAt c i ≤ k → k < j → NotLone n M counts (atomAt c k))
-      → (headsAt c i ≤ j + 1) × ((k : ℕ) → headsAt c i ≤ k → k < j + 1 → NotLone n M counts (atomAt c k))
+      (j : ℕ) (b : Bool) → headsAt c i ≤ j → b ≡ false → TellsAt n M counts (atomAt c j) b → Sofar c i (NotLone n M counts) j
+      → (headsAt c i ≤ j + 1) × Sofar c i (NotLone n M counts) (j + 1)
   lone-more j b l e t none =
-      let u : TellsAt n M counts (atomAt c j) false = subst (TellsAt n M counts (atomAt c j)) e t in (
-        omega arith,
-        λ k low high. ⊎-elim (λ (o : k ≡ j). subst (λ (x : ℕ). NotLone n M counts (atomAt c x)) (sym o) (u .tells))
-            (λ (h : k < j). none k low h) (eq-or-lt-of-le (omega arith)),
-      )
+      scan-more c i (NotLone n M counts) j l (subst (TellsAt n M counts (atomAt c j)) e t .tells) none
 
-  pub lone-nowhere :
-      (j : ℕ) → positivesAt c i ≤ j → ((k : ℕ) → headsAt c i ≤ k → k < j → NotLone n M counts (atomAt c k)) → Tells c n i M
-      counts false
-  lone-nowhere j b none =
-      record {
-        tells =
-            λ a t.
-            let f : Listed c (headsAt c i) (positivesAt c i) a = atoms-listed c (headsAt c i) (positivesAt c i) a t in
-            subst (NotLone n M counts) (sym (f .same)) (none (f .at) (f .among .low) (omega (arith, f .among .high)));
-      }
+  pub lone-nowhere : (j : ℕ) → positivesAt c i ≤ j → Sofar c i (NotLone n M counts) j → Tells c n i M counts false
+  lone-nowhere j b none = record { tells = scan-end c i (NotLone n M counts) j b none }
 
 -- a literal made true is on the side that its sign wants
 granted : (s : Bool) → aim true s ≡ want s
@@ -96,10 +84,23 @@ module _ (c : List ℕ) (n i : ℕ) (counts m : List ℕ) (asks : BackAsks c n i
   within : (a : ℕ) → side n m a ≡ 1 → Within n a
   within a e = decided-within (proper-map n m (asks .proper)) true a e
 
+  -- a count of 1 is that of an atom that was in
+  counted-one : (P : List Rule) (M₀ : Map) → Counts P n M₀ counts → (a : ℕ) → Within n a → side n counts a ≡ 1 → supporters a M₀ P ≡ 1
+  counted-one P M₀ k a w o = one (is 1 M₀ a) (sym (k a w) ∙ o)
+    where
+      one : (b : Bool) → counted b (supporters a M₀ P) ≡ 1 → supporters a M₀ P ≡ 1
+      one true e = e
+      one false e = absurd (omega (arith, e))
+
+  -- an atom that is in has its count
+  counted-in : (P : List Rule) → Counts P n (side n m) counts → (a : ℕ) → side n m a ≡ 1 → side n counts a ≡ supporters a (side n m) P
+  counted-in P k a h =
+      k a (within a h) ∙ ap (λ (b : Bool). counted b (supporters a (side n m) P)) (eq-eqb (side n m a) 1 h)
+
   pub back-none : (b : Bool) → b ≡ false → Tells c n i (side n m) counts b → Backs c n i counts m m Same
   back-none b e t =
       let u : Tells c n i (side n m) counts false = subst (Tells c n i (side n m) counts) e t in
-      left (λ P k a h o g. absurd (u .tells a (supports-head a (side n m) (ruleAt c i) g) h (k a (within a h) ∙ o)))
+      left (λ P k a h o g. absurd (u .tells a (supports-head a (side n m) (ruleAt c i) g) h (counted-in P k a h ∙ o)))
 
   module _ (need most : ℕ) (en : need ≡ needAt c i) (er : most ≡ reach (ruleAt c i) (side n m)) where
     pub back-short : most < need → Backs c n i counts m m Same
@@ -139,8 +140,7 @@ module _ (c : List ℕ) (n i : ℕ) (counts m : List ℕ) (asks : BackAsks c n i
             one =
                 omega (
                   arith,
-                  k (lone .atom) (within (lone .atom) (lone .holds)),
-                  lone .alone,
+                  counted-one P M₀ k (lone .atom) (within (lone .atom) (lone .holds)) (lone .alone),
                   fewer-supporters P M₀ (side n m) (lone .atom) up,
                   count-some (supports (lone .atom) (side n m)) P (ruleAt c i) b supp,
                 )

@@ -1,6 +1,6 @@
 -- Where no pass adds anything, each forcing rule holds of the map, so it is closed; and what was added on the way is in every closed
 -- map above the first, so it is the smallest.
-use Prim.Native.Nat.{ℕ, suc, _+_, _≤_, _<_}
+use Prim.Native.Nat.{ℕ, suc, _+_, _-_, _≤_, _<_}
 use mathlib.Core.Path.{_≡_, sym, _∙_, ap, subst}
 use mathlib.Core.Bool.{Bool, true, false, false≢true}
 use mathlib.Core.List.{List}
@@ -12,11 +12,11 @@ use lib.Dec.{eqb}
 use lib.ListN.{length, getD, take, drop, drop-of-length-le}
 use lib.Seq.{length-take-le, drop-cons, getD-take}
 use Rattle.rules.specs.Sum.{counted, tally}
-use Rattle.rules.specs.Rule.{Rule}
+use Rattle.rules.specs.Rule.{Rule, Within}
 use Rattle.rules.specs.Map.{Map, side, _⊑_}
 use Rattle.rules.specs.Forcing.{Closed, Least}
-use Rattle.table.specs.Rows.{ruleAt, rulesAt}
-use Rattle.table.proofs.Rows.{Standing, rule-stands}
+use Rattle.table.specs.Rows.{ruleAt, rulesAt, Laid}
+use Rattle.table.proofs.Rows.{Standing, rule-stands, rule-mem, laid-fits}
 use Rattle.weigh.specs.declared.Outcome.{Outcome}
 use Rattle.weigh.specs.declared.Outcome.the-variants.{Clash, Same, Grew}
 use Rattle.forcing.specs.declared.Closing.the-variants.{NoneHolds, ClosedWith}
@@ -24,9 +24,9 @@ use Rattle.weigh.specs.Step.{Proper, Step, Till, isClash, isGrew, isSame, undec
 use Rattle.forcing.specs.Heads.{Settled, SettlesAll}
 use Rattle.forcing.specs.Support.{Counts, Backed, BacksAll}
 use Rattle.forcing.specs.Ground.{ListsFounded, Drops, Unless}
-use Rattle.forcing.specs.Close.{Summed, Forcing, BackedAll, FoundedAll, Closes, ClosesMap}
-use Rattle.weigh.proofs.Bytes.{proper-map, equal?}
-use Rattle.weigh.proofs.Steps.{kept-refl, kept-trans, forces-refl, forces-trans, quieter, step-joined}
+use Rattle.forcing.specs.Close.{LowestAt, Summed, Forcing, BackedAll, FoundedAll, Closes, ClosesMap}
+use Rattle.weigh.proofs.Bytes.{side-at, proper-map, equal?}
+use Rattle.weigh.proofs.Steps.{kept-refl, kept-trans, forces-refl, forces-trans, step-same, quieter, step-joined}
 use Rattle.forcing.proofs.Founding.{unfounded-out}
 
 -- an outcome that is not the same is not quiet for anything
@@ -55,6 +55,15 @@ module _ (c : List ℕ) (n count : ℕ) where
       (Till (λ k M. Counts (rulesAt c count) n M counts → Backed (rulesAt c count) (ruleAt c k) M) 0 count) (BackedAll c count)
       m m′ r
       (λ t i l h. t i l h k) s
+
+  -- rule 2 makes undecided literals true, and there is none
+  pub backed-whole : Laid c n count → (m : List ℕ) → Proper n m → (i : ℕ) → LowestAt n m i → i ≡ n → Forcing c n count (BackedAll c count) m m Same
+  backed-whole laid m p i low e =
+      step-same (Closed (rulesAt c count) n) n (BackedAll c count) m p
+      (λ k _ h a _ _ _ s l b z _. undecided-none (laid-fits c n count laid .literal (ruleAt c k) (rule-mem c count k h) s l b) z)
+    where
+      undecided-none : {a : ℕ} → Within n a → side n m a ≡ 0 → ⊥
+      undecided-none {a} w z = low .lower (a - 1) (omega (arith, e, w .low, w .high)) (sym (side-at n m a w) ∙ z)
 
   pub dropped :
       (m m′ u : List ℕ) (r : Outcome) → ListsFounded c n count m u → Drops n u m (n + 1) m′ r
@@ -94,24 +103,24 @@ module _ (c : List ℕ) (n count : ℕ) where
 
   -- a round: three passes, or the first of them that adds something
   pub round-whole :
-      (m m₁ m₂ m₃ : List ℕ) (r q o : Outcome) → Proper n m → isSame r ≡ true → SettlesAll c n count count m m₁ r → isSame q ≡ true
-      → Forcing c n count (BackedAll c count) m₁ m₂ q → Forcing c n count (FoundedAll c n count) m₂ m₃ o
+      (m m₁ m₂ m₃ : List ℕ) (r q o : Outcome) → Proper n m → isSame r ≡ true → Forcing c n count (BackedAll c count) m m₁ r
+      → isSame q ≡ true → Forcing c n count (FoundedAll c n count) m₁ m₂ q → SettlesAll c n count m₂ m₃ o
       → Forcing c n count (Closed (rulesAt c count) n) m m₃ o
   unfolding Settling
-  round-whole m m₁ m₂ m₃ r q o p er s eq t u =
-      quieter (Closed (rulesAt c count) n) n (λ M. (Settling M × BackedAll c count M) × FoundedAll c n count M)
+  round-whole m m₁ m₂ m₃ r q o p er t eq u s =
+      quieter (Closed (rulesAt c count) n) n (λ M. (BackedAll c count M × FoundedAll c n count M) × Settling M)
       (Closed (rulesAt c count) n) m m₃ o
-      (all-closed m p)
-      (after-same (Closed (rulesAt c count) n) n (λ M. Settling M × BackedAll c count M) (FoundedAll c n count) m m₂ m₃ q o eq
-      (after-same (Closed (rulesAt c count) n) n Settling (BackedAll c count) m m₁ m₂ r q er s t) u)
+      (λ x. all-closed m p ((x .1, x .0 .0), x .0 .1))
+      (after-same (Closed (rulesAt c count) n) n (λ M. BackedAll c count M × FoundedAll c n count M) Settling m m₂ m₃ q o eq
+      (after-same (Closed (rulesAt c count) n) n (BackedAll c count) (FoundedAll c n count) m m₁ m₂ r q er t u) s)
 
   pub round-second :
-      (m m₁ m₂ : List ℕ) (r q : Outcome) → isSame r ≡ true → SettlesAll c n count count m m₁ r → isSame q ≡ false
-      → Forcing c n count (BackedAll c count) m₁ m₂ q → Forcing c n count (Closed (rulesAt c count) n) m m₂ q
-  unfolding Settling
-  round-second m m₁ m₂ r q er s eq t =
-      loud-any (Closed (rulesAt c count) n) n (λ M. Settling M × BackedAll c count M) (Closed (rulesAt c count) n) m m₂ q eq
-      (after-same (Closed (rulesAt c count) n) n Settling (BackedAll c count) m m₁ m₂ r q er s t)
+      (m m₁ m₂ : List ℕ) (r q : Outcome) → isSame r ≡ true → Forcing c n count (BackedAll c count) m m₁ r → isSame q ≡ false
+      → Forcing c n count (FoundedAll c n count) m₁ m₂ q → Forcing c n count (Closed (rulesAt c count) n) m m₂ q
+  round-second m m₁ m₂ r q er t eq u =
+      loud-any (Closed (rulesAt c count) n) n (λ M. BackedAll c count M × FoundedAll c n count M) (Closed (rulesAt c count) n) m m₂ q
+      eq
+      (after-same (Closed (rulesAt c count) n) n (BackedAll c count) (FoundedAll c n count) m m₁ m₂ r q er t u)
 
   -- rounds until none adds anything
   module _ (m : List ℕ) where

@@ -1,24 +1,26 @@
--- Each head of a rule is one atom, so a rule that can still give its heads adds one to the count of each, and none twice.
+-- Each head of a rule is one atom, so a rule that can still give its heads adds one to the count of each that is in, and none
+-- twice.
 use Prim.Native.Nat.{ℕ, zero, suc, _+_, _-_, _≤_, _<_}
-use mathlib.Core.Path.{_≡_, refl, sym, _∙_, ap}
-use mathlib.Core.Bool.{Bool, not, _&&_, _||_, and-true, and-false}
+use mathlib.Core.Path.{_≡_, refl, sym, _∙_, ap, subst}
+use mathlib.Core.Bool.{Bool, true, false, not, _&&_, _||_, and-true, and-false}
 use mathlib.Core.Logic.{⊎-elim}
 use mathlib.Core.List.{List}
 use native.Mathlib.Omega.{arith}
-use borrow.Author.Tests.{eq-eqb, ne-eqb, le-leb, lt-leb}
+use borrow.Author.Tests.{eq-eqb, ne-eqb, le-leb}
 use lib.Dec.{T, eqb}
 use lib.ListN.{length, set, length-set}
 use Rattle.rules.specs.Limits.{rulesMost}
 use Rattle.rules.specs.Sum.{counted, tally, has}
 use Rattle.rules.specs.Rule.{Within}
-use Rattle.rules.specs.Map.{Map, side, reach}
+use Rattle.rules.specs.Map.{Map, side, is, reach}
 use Rattle.rules.specs.Forcing.{supports, supporters}
-use Rattle.rules.proofs.Tests.{T-true, T-false, decided, T-eq, T-ne}
+use Rattle.rules.proofs.Tests.{eq-T, T-true, T-false, T-same, and-T, T-and-left, T-and-right, decided, T-eq, T-ne}
+use Rattle.rules.proofs.Forced.{supports-head, supports-reach}
 use Rattle.table.specs.Words.{atomAt, atoms}
 use Rattle.table.specs.Rows.{headsAt, positivesAt, needAt, ruleAt, rulesFrom, rulesAt, Row}
 use Rattle.table.proofs.Words.{Listed, counted-most, atoms-listed, has-done, has-next}
 use Rattle.table.proofs.Rows.{heads-apart, rules-done, rules-next}
-use Rattle.forcing.specs.Support.{Counts, Small, PairCounts, Adds, Counting, Heading}
+use Rattle.forcing.specs.Support.{Counts, Small, Adds, Counting, Heading, Stirs}
 use Rattle.weigh.proofs.Bytes.{side-put, side-other, equal?}
 
 -- one more at one atom
@@ -37,6 +39,39 @@ module _ (n : ℕ) (counts : List ℕ) (a : ℕ) (w : Within n a) (room : n ≤ 
       there e =
           side-other n counts a (side n counts a + 1) w x e
           ∙ (let g : counted (eqb x a) 1 ≡ 0 = ap (λ (b : Bool). counted b 1) (ne-eqb x a e) in omega arith)
+
+  -- an atom that is in has one more, and any other has no more
+  module _ (M : Map) where
+    pub pair-in : M a ≡ 1 → Adds n (λ x. is 1 M x && eqb x a) counts (set counts (a - 1) (side n counts a + 1))
+    pair-in e = record { adds = λ x _. bumped x ∙ ap (λ (b : Bool). side n counts x + counted b 1) (same x) }
+      where
+        same : (x : ℕ) → eqb x a ≡ (is 1 M x && eqb x a)
+        same x =
+            T-same (eqb x a) (is 1 M x && eqb x a)
+            (λ t. and-T (is 1 M x) (eqb x a) (eq-T (ap M (T-eq t) ∙ e)) t)
+            (λ t. T-and-right (is 1 M x) (eqb x a) t)
+
+    pub pair-not-in : (M a ≡ 1 → ⊥) → Adds n (λ x. is 1 M x && eqb x a) counts counts
+    pair-not-in f =
+        record {
+          adds =
+              λ x _.
+              let z : counted (is 1 M x && eqb x a) 1 ≡ 0 =
+              ap (λ (b : Bool). counted b 1)
+              (T-false (is 1 M x && eqb x a)
+              (λ t. f (ap M (sym (T-eq (T-and-right (is 1 M x) (eqb x a) t))) ∙ T-eq (T-and-left (is 1 M x) (eqb x a) t))))
+              in
+              omega arith;
+        }
+
+-- what is counted only under a test
+under : (b x y z : Bool) → counted x 1 ≡ counted y 1 + counted z 1 → counted (b && x) 1 ≡ counted (b && y) 1 + counted (b && z) 1
+under true x y z e = e
+under false x y z e = refl
+
+under-sum : (b s : Bool) (k : ℕ) → counted b (counted s 1 + k) ≡ counted (b && s) 1 + counted b k
+under-sum true s k = refl
+under-sum false s k = refl
 
 module _ (c : List ℕ) (n i : ℕ) (row : Row c n i) where
   -- a head counts once
@@ -64,17 +99,17 @@ module _ (c : List ℕ) (n i : ℕ) (row : Row c n i) where
           → counted (eqb a (atomAt c j) || later) 1 ≡ counted (eqb a (atomAt c j)) 1 + counted later 1
       rest t = simp (ne-eqb a (atomAt c j) (T-ne t)) (omega arith)
 
-  module _ (counts₀ : List ℕ) where
-    pub heading-begin : (j : ℕ) → j ≡ headsAt c i → Heading c n i counts₀ j counts₀
+  module _ (M : Map) (counts₀ : List ℕ) where
+    pub heading-begin : (j : ℕ) → j ≡ headsAt c i → Heading c n i M counts₀ j counts₀
     heading-begin j e =
         record {
           long = refl;
           low = omega arith;
-          sofar = λ a w. ap (λ (x : ℕ). side n counts₀ a + counted (has a (atoms c x (positivesAt c i))) 1) e;
+          sofar = λ a w. ap (λ (x : ℕ). side n counts₀ a + counted (is 1 M a && has a (atoms c x (positivesAt c i))) 1) e;
         }
 
     -- no count is more than one above where it began
-    pub heading-small : Small n 0 counts₀ → (j : ℕ) (counts : List ℕ) → Heading c n i counts₀ j counts → Small n 1 counts
+    pub heading-small : Small n 0 counts₀ → (j : ℕ) (counts : List ℕ) → Heading c n i M counts₀ j counts → Small n 1 counts
     heading-small small j counts h =
         record {
           room = omega (arith, h .long, small .room);
@@ -84,67 +119,84 @@ module _ (c : List ℕ) (n i : ℕ) (row : Row c n i) where
                 arith,
                 h .sofar a w,
                 small .small a w,
-                counted-most (has a (atoms c (headsAt c i) (positivesAt c i))) 1,
+                counted-most (is 1 M a && has a (atoms c (headsAt c i) (positivesAt c i))) 1,
               );
         }
 
     pub heading-more :
-        (j : ℕ) (counts counts′ : List ℕ) → j < positivesAt c i → n ≤ length counts → Heading c n i counts₀ j counts
-        → PairCounts c n j counts counts′ → Heading c n i counts₀ (j + 1) counts′
-    heading-more j counts counts′ b room h p =
+        (j : ℕ) (counts counts′ : List ℕ) → j < positivesAt c i → length counts′ ≡ length counts → Heading c n i M counts₀ j counts
+        → Adds n (λ a. is 1 M a && eqb a (atomAt c j)) counts counts′ → Heading c n i M counts₀ (j + 1) counts′
+    heading-more j counts counts′ b long h p =
         record {
-          long = ap length (p .now) ∙ length-set counts (atomAt c j - 1) (side n counts (atomAt c j) + 1) ∙ h .long;
+          long = long ∙ h .long;
           low = omega (arith, h .low);
           sofar =
               λ a w.
-              let e : side n counts′ a ≡ side n counts a + counted (eqb a (atomAt c j)) 1 =
-              ap (λ (l : List ℕ). side n l a) (p .now) ∙ bumped n counts (atomAt c j) (row .heads .pairs j (h .low) b .within)
-              room a
-              in
-              omega (arith, h .sofar a w, once a j (h .low) b);
+              omega (
+                arith,
+                h .sofar a w,
+                p .adds a w,
+                under (is 1 M a) (has a (atoms c j (positivesAt c i))) (eqb a (atomAt c j))
+                    (has a (atoms c (j + 1) (positivesAt c i))) (once a j (h .low) b),
+              );
         }
 
     pub heading-end :
-        (j : ℕ) (counts : List ℕ) → positivesAt c i ≤ j → Heading c n i counts₀ j counts
-        → Adds n (λ a. has a (atoms c (headsAt c i) (positivesAt c i))) counts₀ counts
+        (j : ℕ) (counts : List ℕ) → positivesAt c i ≤ j → Heading c n i M counts₀ j counts
+        → Adds n (λ a. is 1 M a && has a (atoms c (headsAt c i) (positivesAt c i))) counts₀ counts
     heading-end j counts b h =
         record {
           adds =
               λ a w.
-              let z : counted (has a (atoms c j (positivesAt c i))) 1 ≡ 0 = ap (λ (x : Bool). counted x 1)
-              (has-done a c j (positivesAt c i) b) in
+              let z : counted (is 1 M a && has a (atoms c j (positivesAt c i))) 1 ≡ 0 =
+              ap (λ (x : Bool). counted (is 1 M a && x) 1) (has-done a c j (positivesAt c i) b)
+              ∙ ap (λ (x : Bool). counted x 1) (and-false (is 1 M a))
+              in
               omega (arith, h .sofar a w);
         }
 
-  module _ (M : Map) (need most : ℕ) (en : need ≡ needAt c i) (er : most ≡ reach (ruleAt c i) M) (counts counts′ : List ℕ) where
-    -- a rule adds one to each head where it can still give it
-    pub rule-short : most < need → Adds n (λ a. supports a M (ruleAt c i)) counts counts
-    rule-short h =
+  -- a rule adds one to each head that is in, where it can still give it
+  module _ (M : Map) (counts counts′ : List ℕ) where
+    -- what passes no test is not counted
+    idle : ((a : ℕ) → M a ≡ 1 → T (supports a M (ruleAt c i)) → ⊥) → Adds n (λ a. is 1 M a && supports a M (ruleAt c i)) counts counts
+    idle f =
         record {
           adds =
               λ a w.
-              let z : counted (supports a M (ruleAt c i)) 1 ≡ 0 =
-              ap (λ (b : Bool). counted (has a (ruleAt c i .heads) && b) 1)
-              (lt-leb (needAt c i) (reach (ruleAt c i) M) (omega arith))
-              ∙ ap (λ (b : Bool). counted b 1) (and-false (has a (ruleAt c i .heads)))
+              let z : counted (is 1 M a && supports a M (ruleAt c i)) 1 ≡ 0 =
+              ap (λ (b : Bool). counted b 1)
+              (T-false (is 1 M a && supports a M (ruleAt c i))
+              (λ t. f a (T-eq (T-and-left (is 1 M a) (supports a M (ruleAt c i)) t))
+              (T-and-right (is 1 M a) (supports a M (ruleAt c i)) t)))
               in
               omega arith;
         }
 
-    pub rule-long :
-        need ≤ most → Adds n (λ a. has a (atoms c (headsAt c i) (positivesAt c i))) counts counts′
-        → Adds n (λ a. supports a M (ruleAt c i)) counts counts′
-    rule-long h p =
-        record {
-          adds =
-              λ a w.
-              let z : counted (supports a M (ruleAt c i)) 1 ≡ counted (has a (ruleAt c i .heads)) 1 =
-              ap (λ (b : Bool). counted (has a (ruleAt c i .heads) && b) 1)
-              (le-leb (needAt c i) (reach (ruleAt c i) M) (omega arith))
-              ∙ ap (λ (b : Bool). counted b 1) (and-true (has a (ruleAt c i .heads)))
-              in
-              omega (arith, p .adds a w);
-        }
+    pub rule-still :
+        (b : Bool) → b ≡ false → Stirs (ruleAt c i) M b → Adds n (λ a. is 1 M a && supports a M (ruleAt c i)) counts counts
+    rule-still b e t =
+        let u : Stirs (ruleAt c i) M false = subst (Stirs (ruleAt c i) M) e t in
+        idle (λ a h s. u .tells a (supports-head a M (ruleAt c i) s) h)
+
+    module _ (need most : ℕ) (en : need ≡ needAt c i) (er : most ≡ reach (ruleAt c i) M) where
+      pub rule-short : most < need → Adds n (λ a. is 1 M a && supports a M (ruleAt c i)) counts counts
+      rule-short h = idle (λ a _ s. omega (arith, supports-reach a M (ruleAt c i) s, en, er))
+
+      pub rule-long :
+          need ≤ most → Adds n (λ a. is 1 M a && has a (atoms c (headsAt c i) (positivesAt c i))) counts counts′
+          → Adds n (λ a. is 1 M a && supports a M (ruleAt c i)) counts counts′
+      rule-long h p =
+          record {
+            adds =
+                λ a w.
+                let z :
+                counted (is 1 M a && supports a M (ruleAt c i)) 1 ≡ counted (is 1 M a && has a (ruleAt c i .heads)) 1 =
+                ap (λ (b : Bool). counted (is 1 M a && (has a (ruleAt c i .heads) && b)) 1)
+                (le-leb (needAt c i) (reach (ruleAt c i) M) (omega arith))
+                ∙ ap (λ (b : Bool). counted (is 1 M a && b) 1) (and-true (has a (ruleAt c i .heads)))
+                in
+                omega (arith, p .adds a w);
+          }
 
 -- at most as many rules give an atom as there are
 few-supporters : (c : List ℕ) (M : Map) (a k i : ℕ) → supporters a M (rulesFrom c k i) ≤ k
@@ -171,18 +223,50 @@ module _ (c : List ℕ) (n count : ℕ) (M : Map) where
       none : count - 0 ≡ count
       none = omega arith
 
-      whole : (a : ℕ) → supporters a M (rulesFrom c (count - 0) 0) ≡ supporters a M (rulesAt c count)
-      whole a = ap (λ (k : ℕ). supporters a M (rulesFrom c k 0)) none
+      whole :
+          (a : ℕ)
+          → counted (is 1 M a) (supporters a M (rulesFrom c (count - 0) 0)) ≡ counted (is 1 M a) (supporters a M (rulesAt c count))
+      whole a = ap (λ (k : ℕ). counted (is 1 M a) (supporters a M (rulesFrom c k 0))) none
 
   pub counting-small : (i : ℕ) (counts : List ℕ) → count ≤ rulesMost → Counting c n count M i counts → Small n 0 counts
   counting-small i counts h p =
-      record { room = p .room; small = λ a w. omega (arith, p .sofar a w, few-supporters c M a count 0) }
+      record {
+        room = p .room;
+        small =
+            λ a w.
+            omega (
+              arith,
+              p .sofar a w,
+              counted-most (is 1 M a) (supporters a M (rulesAt c count)),
+              few-supporters c M a count 0,
+            );
+      }
 
   pub counting-more :
       (i : ℕ) (counts counts′ : List ℕ) → i < count → length counts′ ≡ length counts → Counting c n count M i counts
-      → Adds n (λ a. supports a M (ruleAt c i)) counts counts′ → Counting c n count M (i + 1) counts′
+      → Adds n (λ a. is 1 M a && supports a M (ruleAt c i)) counts counts′ → Counting c n count M (i + 1) counts′
   counting-more i counts counts′ h e p q =
-      record { room = omega (arith, p .room); sofar = λ a w. omega (arith, p .sofar a w, q .adds a w, supporters-next a i h) }
+      record {
+        room = omega (arith, p .room);
+        sofar =
+            λ a w.
+            let f :
+            counted (is 1 M a) (supporters a M (rulesFrom c (count - i) i))
+            ≡ counted (is 1 M a && supports a M (ruleAt c i)) 1
+            + counted (is 1 M a) (supporters a M (rulesFrom c (count - (i + 1)) (i + 1))) =
+            ap (counted (is 1 M a)) (supporters-next a i h)
+            ∙ under-sum (is 1 M a) (supports a M (ruleAt c i)) (supporters a M (rulesFrom c (count - (i + 1)) (i + 1)))
+            in
+            omega (arith, p .sofar a w, q .adds a w);
+      }
 
   pub counting-end : (i : ℕ) (counts : List ℕ) → count ≤ i → Counting c n count M i counts → Counts (rulesAt c count) n M counts
-  counting-end i counts h p a w = omega (arith, p .sofar a w, supporters-done a i h)
+  counting-end i counts h p a w =
+      let z : counted (is 1 M a) (supporters a M (rulesFrom c (count - i) i)) ≡ 0 =
+      ap (counted (is 1 M a)) (supporters-done a i h) ∙ none (is 1 M a)
+      in
+      omega (arith, p .sofar a w)
+    where
+      none : (b : Bool) → counted b 0 ≡ 0
+      none true = refl
+      none false = refl

@@ -72,7 +72,7 @@ module _ (c : List ℕ) (n count : ℕ) (m u : List ℕ) where
   founding-begin p = record { kept = kept-refl n u p; forces = forces-refl (Grounding (rulesAt c count) (side n m)) (side n u) }
 
   pub founding-more :
-      (u′ u″ : List ℕ) (r : Outcome) → isGrew r ≡ true → Founding c n count m u u′ → GroundsAll c n count m u′ count u″ r
+      (u′ u″ : List ℕ) (r : Outcome) → isGrew r ≡ true → Founding c n count m u u′ → GroundsAll c n count m u′ u″ r
       → Founding c n count m u u″ × (undecided n u″ < undecided n u′)
   founding-more u′ u″ Clash e f s = absurd (false≢true e)
   founding-more u′ u″ Same e f s = absurd (false≢true e)
@@ -111,7 +111,7 @@ module _ (c : List ℕ) (n count : ℕ) (m u : List ℕ) where
             (subst (λ (x : Rule). T (has a (x .heads))) (s .same) t) o)
 
     pub founding-end :
-        (u′ u″ : List ℕ) (r : Outcome) → isGrew r ≡ false → Founding c n count m u u′ → GroundsAll c n count m u′ count u″ r
+        (u′ u″ : List ℕ) (r : Outcome) → isGrew r ≡ false → Founding c n count m u u′ → GroundsAll c n count m u′ u″ r
         → ListsFounded c n count m u″
     founding-end u′ u″ Clash e f s =
         absurd (s .went .none (marks (isnt 2 (side n m))) (good) (below u′ f (marks (isnt 2 (side n m))) good))

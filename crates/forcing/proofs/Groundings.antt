@@ -5,7 +5,6 @@ use mathlib.Core.Path.{_≡_, refl, sym, _∙_, ap, subst}
 use mathlib.Core.Bool.{Bool, true, false}
 use mathlib.Core.Logic.{⊎-elim}
 use mathlib.Core.List.{List, List·Memᴰ}
-use native.Mathlib.Nat.{eq-or-lt-of-le}
 use native.Mathlib.Omega.{arith}
 use lib.Dec.{T}
 use Rattle.rules.specs.Rule.{Weighted, Within, body}
@@ -21,6 +20,7 @@ use Rattle.weigh.specs.declared.Outcome.the-variants.{Same}
 use Rattle.weigh.specs.Step.{Concludes, Proper, Decided, Kept, Step, Till, Puts, both}
 use Rattle.forcing.specs.Ground.{PutsUnless, Unless, Grounding, Grounded, Full, Lacks, Misses, GroundAsks, GroundsHeads, GroundsRule}
 use Rattle.weigh.proofs.Bytes.{equal?}
+use Rattle.forcing.proofs.HeadScans.{Sofar, scan-more, scan-end}
 use Rattle.weigh.proofs.Steps.{kept-refl, kept-trans, kept-put, concludes-on, step-same, quieter, steps-begin, steps-more, steps-end, step-put}
 
 pub sided-in : Decided 1
@@ -124,22 +124,16 @@ module _ (c : List ℕ) (n i : ℕ) (m u : List ℕ) (asks : GroundAsks c n i m 
 
   pub lacks-more :
       (j : ℕ) (b : Bool) → headsAt c i ≤ j → b ≡ false → Misses (side n m) (side n u) (atomAt c j) b
-      → ((k : ℕ) → headsAt c i ≤ k → k < j → Unless (side n m) (atomAt c k) 2 1 (side n u))
-      → (headsAt c i ≤ j + 1) × ((k : ℕ) → headsAt c i ≤ k → k < j + 1 → Unless (side n m) (atomAt c k) 2 1 (side n u))
+      → Sofar c i (λ a. Unless (side n m) a 2 1 (side n u)) j
+      → (headsAt c i ≤ j + 1) × Sofar c i (λ a. Unless (side n m) a 2 1 (side n u)) (j + 1)
   lacks-more j b l e t all =
-      let s : Misses (side n m) (side n u) (atomAt c j) false = subst (Misses (side n m) (side n u) (atomAt c j)) e t in (
-        omega arith,
-        λ k low high.
-            ⊎-elim
-            (λ (o : k ≡ j). subst (λ (x : ℕ). Unless (side n m) (atomAt c x) 2 1 (side n u)) (sym o) (s .tells))
-            (λ (h : k < j). all k low h)
-            (eq-or-lt-of-le (omega arith)),
-      )
+      scan-more c i (λ a. Unless (side n m) a 2 1 (side n u)) j l
+      (subst (Misses (side n m) (side n u) (atomAt c j)) e t .tells) all
 
   pub lacks-none :
-      (j : ℕ) → positivesAt c i ≤ j → ((k : ℕ) → headsAt c i ≤ k → k < j → Unless (side n m) (atomAt c k) 2 1 (side n u))
+      (j : ℕ) → positivesAt c i ≤ j → Sofar c i (λ a. Unless (side n m) a 2 1 (side n u)) j
       → Lacks (ruleAt c i) (side n m) (side n u) false
-  lacks-none j h all = record { tells = by-place (side n u) (λ k l b. all k l (omega arith)) }
+  lacks-none j h all = record { tells = scan-end c i (λ a. Unless (side n m) a 2 1 (side n u)) j h all }
 
   -- one rule
   left : Grounded (ruleAt c i) (side n m) (side n u) → GroundsRule c n i m u u Same

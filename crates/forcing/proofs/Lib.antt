@@ -1,3 +1,5 @@
+pub mod Passes
+pub mod HeadScans
 pub mod Settling
 pub mod Counting
 pub mod Backing

@@ -1,9 +1,9 @@
 -- "A map is closed when none of these adds anything." "the map becomes the smallest closed map holding the old map"
-use Prim.Native.Nat.{ℕ, _+_, _≤_}
+use Prim.Native.Nat.{ℕ, _+_, _≤_, _<_}
 use mathlib.Core.Path.{_≡_}
 use mathlib.Core.List.{List}
 use lib.Dec.{eqb}
-use lib.ListN.{take, drop}
+use lib.ListN.{getD, take, drop}
 use Rattle.rules.specs.Sum.{tally}
 use Rattle.rules.specs.Rule.{Within}
 use Rattle.rules.specs.Map.{Map, side, _⊑_}
@@ -19,6 +19,12 @@ use Rattle.forcing.specs.Support.{Backed}
 pub record Summed (n : ℕ) (m : List ℕ) (sum i : ℕ) : Type 0 where
   pub few : sum ≤ i
   pub whole : sum + tally (λ b. eqb b 0) (λ _. 1) (drop i (take n m)) ≡ undecided n m
+
+-- the lowest undecided atom has this index; at n there is none
+pub record LowestAt (n : ℕ) (m : List ℕ) (i : ℕ) : Type 0 where
+  pub within : i ≤ n
+  pub lower : (k : ℕ) → k < i → getD m k 0 ≡ 0 → ⊥
+  pub here : i < n → getD m i 0 ≡ 0
 
 -- a step of the forcing rules on a table
 abbrev pub Forcing : List ℕ → ℕ → ℕ → (Map → Type 0) → List ℕ → List ℕ → Outcome → Type 0

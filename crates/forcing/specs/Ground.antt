@@ -78,9 +78,9 @@ pub record GroundsRule (c : List ℕ) (n i : ℕ) (m u u′ : List ℕ) (r : Out
       (P : List Rule) → List·Memᴰ (ruleAt c i) P
       → Step (Grounding P (side n m)) n (Grounded (ruleAt c i) (side n m)) u u′ r
 
-abbrev pub GroundsAll : List ℕ → ℕ → ℕ → List ℕ → List ℕ → ℕ → List ℕ → Outcome → Type 0
-GroundsAll c n count m u i u′ r =
-    Step (Grounding (rulesAt c count) (side n m)) n (Till (λ k. Grounded (ruleAt c k) (side n m)) 0 i) u u′ r
+abbrev pub GroundsAll : List ℕ → ℕ → ℕ → List ℕ → List ℕ → List ℕ → Outcome → Type 0
+GroundsAll c n count m u u′ r =
+    Step (Grounding (rulesAt c count) (side n m)) n (Till (λ k. Grounded (ruleAt c k) (side n m)) 0 count) u u′ r
 
 -- no atom is in U yet
 pub record Blank (n : ℕ) (u : List ℕ) : Type 0 where

@@ -35,5 +35,5 @@ pub record HeadAsks (c : List ℕ) (n i head x : ℕ) (m : List ℕ) : Type 0 wh
   pub stands : x ≡ side n m head
 
 -- both forcing rules at every rule
-abbrev pub SettlesAll : List ℕ → ℕ → ℕ → ℕ → List ℕ → List ℕ → Outcome → Type 0
-SettlesAll c n count i m m′ r = Step (Closed (rulesAt c count) n) n (Till (λ k. Settled (ruleAt c k)) 0 i) m m′ r
+abbrev pub SettlesAll : List ℕ → ℕ → ℕ → List ℕ → List ℕ → Outcome → Type 0
+SettlesAll c n count m m′ r = Step (Closed (rulesAt c count) n) n (Till (λ k. Settled (ruleAt c k)) 0 count) m m′ r

@@ -1,3 +1,4 @@
+pub mod Pass
 pub mod Heads
 pub mod Support
 pub mod Ground

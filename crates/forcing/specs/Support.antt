@@ -1,34 +1,35 @@
 -- "2. An atom is in and exactly one rule with that head has reach at or above its need: each undecided literal of that body whose
 -- weight taken from reach leaves less than the need is made true." "Repeated rules count as often as they stand on the sheet."
--- The rules that can still give an atom are counted for all atoms at once, by atom.
+-- The rules that can still give an atom are counted for all atoms that are in at once, by atom.
 use Prim.Native.Nat.{ℕ, _+_, _-_, _≤_, _<_}
 use mathlib.Core.Path.{_≡_}
-use mathlib.Core.Bool.{Bool, true, false}
+use mathlib.Core.Bool.{Bool, true, false, _&&_}
 use mathlib.Core.List.{List, List·Memᴰ}
 use lib.Dec.{T}
-use lib.ListN.{length, set}
+use lib.ListN.{length}
 use Rattle.rules.specs.Limits.{rulesMost}
 use Rattle.rules.specs.Sum.{counted, has}
 use Rattle.rules.specs.Rule.{Rule, Weighted, Within, body}
-use Rattle.rules.specs.Map.{Map, side, reach, _⊑_}
+use Rattle.rules.specs.Map.{Map, side, is, reach, _⊑_}
 use Rattle.rules.specs.Forcing.{Closed, supports, supporters}
 use Rattle.table.specs.Words.{atomAt, atoms}
 use Rattle.table.specs.Rows.{headsAt, positivesAt, ruleAt, rulesFrom, rulesAt, Row}
 use Rattle.weigh.specs.declared.Outcome.{Outcome}
 use Rattle.weigh.specs.Step.{Proper, Kept, Step, Till}
 
--- for each atom, how many rules can still give it; an atom's count stands where its byte stands in a map
+-- for each atom that is in, how many rules can still give it, and for any other 0; an atom's count stands where its byte stands in
+-- a map
 abbrev pub Counts : List Rule → ℕ → Map → List ℕ → Type 0
-Counts P n M counts = (a : ℕ) → Within n a → side n counts a ≡ supporters a M P
+Counts P n M counts = (a : ℕ) → Within n a → side n counts a ≡ counted (is 1 M a) (supporters a M P)
 
 -- there is a count for each atom, which is no more than the most rules and some
 pub record Small (n some : ℕ) (counts : List ℕ) : Type 0 where
   pub room : n ≤ length counts
   pub small : (a : ℕ) → Within n a → side n counts a ≤ rulesMost + some
 
--- one more at the atom of pair j
-pub record PairCounts (c : List ℕ) (n j : ℕ) (counts counts′ : List ℕ) : Type 0 where
-  pub now : counts′ ≡ set counts (atomAt c j - 1) (side n counts (atomAt c j) + 1)
+pub record CountAsks (n : ℕ) (m : List ℕ) (some : ℕ) (counts : List ℕ) : Type 0 where
+  pub map : n ≤ length m
+  pub small : Small n some counts
 
 -- one more at each atom that passes a test
 pub record Adds (n : ℕ) (test : ℕ → Bool) (counts counts′ : List ℕ) : Type 0 where
@@ -39,16 +40,28 @@ pub record Counting (c : List ℕ) (n count : ℕ) (M : Map) (i : ℕ) (counts :
   pub room : n ≤ length counts
   pub sofar :
       (a : ℕ) → Within n a
-      → side n counts a + supporters a M (rulesFrom c (count - i) i) ≡ supporters a M (rulesAt c count)
+      → side n counts a + counted (is 1 M a) (supporters a M (rulesFrom c (count - i) i))
+      ≡ counted (is 1 M a) (supporters a M (rulesAt c count))
 
 -- the heads before pair j are counted
-pub record Heading (c : List ℕ) (n i : ℕ) (counts₀ : List ℕ) (j : ℕ) (counts : List ℕ) : Type 0 where
+pub record Heading (c : List ℕ) (n i : ℕ) (M : Map) (counts₀ : List ℕ) (j : ℕ) (counts : List ℕ) : Type 0 where
   pub long : length counts ≡ length counts₀
   pub low : headsAt c i ≤ j
   pub sofar :
       (a : ℕ) → Within n a
-      → side n counts a + counted (has a (atoms c j (positivesAt c i))) 1
-      ≡ side n counts₀ a + counted (has a (atoms c (headsAt c i) (positivesAt c i))) 1
+      → side n counts a + counted (is 1 M a && has a (atoms c j (positivesAt c i))) 1
+      ≡ side n counts₀ a + counted (is 1 M a && has a (atoms c (headsAt c i) (positivesAt c i))) 1
+
+-- no head of the rule is in
+abbrev pub Still : Rule → Map → Type 0
+Still r M = (a : ℕ) → T (has a (r .heads)) → M a ≡ 1 → ⊥
+
+abbrev pub StillUnless : Rule → Map → Bool → Type 0
+StillUnless r M true = Unit
+StillUnless r M false = Still r M
+
+pub record Stirs (r : Rule) (M : Map) (b : Bool) : Type 0 where
+  pub tells : StillUnless r M b
 
 -- the forcing rule has nothing to add for this rule
 abbrev pub Backed : List Rule → Rule → Map → Type 0

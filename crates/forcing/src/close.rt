@@ -15,7 +15,7 @@ ghost use Rattle.rules.specs.Forcing.{Closed};
 ghost use Rattle.table.specs.Rows.{rulesAt, Laid};
 ghost use Rattle.weigh.specs.Weigh.{Room};
 ghost use Rattle.weigh.specs.Step.{Proper, undecided};
-ghost use Rattle.forcing.specs.Close.{Forcing, BackedAll, FoundedAll, ClosesMap};
+ghost use Rattle.forcing.specs.Close.{LowestAt, Forcing, BackedAll, FoundedAll, ClosesMap};
 
 // How many of the n atoms are undecided.
 pub fn count_undecided(m: &[u8], n: u32) -> u32
@@ -33,11 +33,29 @@ pub fn count_undecided(m: &[u8], n: u32) -> u32
     sum
 }
 
-// Forcing rule 2 at every rule.
+// The index of the lowest undecided atom, or n.
+pub fn lowest(m: &[u8], n: u32) -> u32
+    requires { ⌜ Proper n (now m) ⌝ }
+    ensures { λ r. ⌜ LowestAt n (now (m .entry)) r ⌝ }
+{
+    let mut i: u32 = 0;
+    while i < n {
+        if m[i as usize] == 0 {
+            return i;
+        }
+        i += 1;
+    }
+    i
+}
+
+// Forcing rule 2 at every rule: nothing where every atom is decided.
 fn back_round(code: &[u32], n: u32, count: u32, m: &mut [u8]) -> Outcome
     requires { ⌜ Laid (now code) n count × Proper n (now m) ⌝ }
     ensures { λ r. ⌜ Forcing (now (code .entry)) n count (BackedAll (now (code .entry)) count) (now (m .entry)) (now (m .exit)) r ⌝ }
 {
+    if lowest(m, n) == n {
+        return Outcome::Same;
+    }
     let mut counts = [0u32; Atom::LAST];
     count_all(code, n, count, m, &mut counts);
     back_all(code, n, count, &counts, m)
@@ -53,16 +71,17 @@ fn drop_round(code: &[u32], n: u32, count: u32, m: &mut [u8]) -> Outcome
     drop_all(n, &u, m)
 }
 
-// The four forcing rules, the dearer ones only where the cheaper add nothing.
-fn round(code: &[u32], n: u32, count: u32, m: &mut [u8]) -> Outcome
+// The four forcing rules, each only where those before it add nothing: rule 2 most often answers a guess, rule 4 decides many atoms
+// at once, and rules 1 and 3 one after another.
+fn round(code: &[u32], n: u32, count: u32, down: bool, m: &mut [u8]) -> Outcome
     requires { ⌜ Laid (now code) n count × Proper n (now m) ⌝ }
     ensures { λ r. ⌜ Forcing (now (code .entry)) n count (Closed (rulesAt (now (code .entry)) count) n) (now (m .entry)) (now (m .exit)) r ⌝ }
 {
-    let first = settle_all(code, n, count, m);
+    let first = back_round(code, n, count, m);
     if is_same(first) {
-        let second = back_round(code, n, count, m);
+        let second = drop_round(code, n, count, m);
         if is_same(second) {
-            return drop_round(code, n, count, m);
+            return settle_all(code, n, count, down, m);
         }
         return second;
     }
@@ -75,9 +94,11 @@ pub fn close(code: &[u32], n: u32, count: u32, m: &mut [u8]) -> Closing
     requires { ⌜ Laid (now code) n count × Proper n (now m) ⌝ }
     ensures { λ r. ⌜ ClosesMap (now (code .entry)) n count (now (m .entry)) (now (m .exit)) r ⌝ }
 {
+    let mut down = false;
     loop {
-        let one = round(code, n, count, m);
+        let one = round(code, n, count, down, m);
         if is_grew(one) {
+            down = !down;
             continue;
         }
         if is_clash(one) {

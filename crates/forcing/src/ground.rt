@@ -1,4 +1,5 @@
 // Forcing rule 4: the atoms that the rules can still found, and those that they cannot.
+use super::pass::place;
 use weigh::Outcome;
 use weigh::side_of;
 use weigh::step::is_clash;
@@ -88,15 +89,15 @@ fn ground(code: &[u32], n: u32, i: u32, m: &[u8], u: &mut [u8]) -> Outcome
     Outcome::Same
 }
 
-// Every rule once, one after another.
-fn ground_all(code: &[u32], n: u32, count: u32, m: &[u8], u: &mut [u8]) -> Outcome
+// Every rule once, one after another, up or down.
+fn ground_all(code: &[u32], n: u32, count: u32, down: bool, m: &[u8], u: &mut [u8]) -> Outcome
     requires { ⌜ Laid (now code) n count × (Proper n (now m) × Proper n (now u)) ⌝ }
-    ensures { λ r. ⌜ GroundsAll (now (code .entry)) n count (now (m .entry)) (now (u .entry)) count (now (u .exit)) r ⌝ }
+    ensures { λ r. ⌜ GroundsAll (now (code .entry)) n count (now (m .entry)) (now (u .entry)) (now (u .exit)) r ⌝ }
 {
     let mut all = Outcome::Same;
     let mut i: u32 = 0;
     while i < count {
-        let one = ground(code, n, i, m, u);
+        let one = ground(code, n, place(count, i, down), m, u);
         all = join(all, one);
         i += 1;
     }
@@ -108,9 +109,11 @@ pub fn founded(code: &[u32], n: u32, count: u32, m: &[u8], u: &mut [u8])
     requires { ⌜ Laid (now code) n count × (Proper n (now m) × Blank n (now u)) ⌝ }
     ensures { λ r. ⌜ ListsFounded (now (code .entry)) n count (now (m .entry)) (now (u .exit)) ⌝ }
 {
+    let mut down = false;
     loop {
-        let round = ground_all(code, n, count, m, u);
+        let round = ground_all(code, n, count, down, m, u);
         if is_grew(round) {
+            down = !down;
             continue;
         }
         return;

@@ -1,4 +1,5 @@
 // Forcing rules 1 and 3: what a rule that must give its head asks of the head and of the body.
+use super::pass::place;
 use weigh::Outcome;
 use weigh::press::press_body;
 use weigh::side_of;
@@ -42,15 +43,15 @@ fn settle(code: &[u32], n: u32, i: u32, m: &mut [u8]) -> Outcome
     settle_head(code, n, i, head, x, m)
 }
 
-// Every rule, one after another.
-pub fn settle_all(code: &[u32], n: u32, count: u32, m: &mut [u8]) -> Outcome
+// Every rule, one after another, up or down.
+pub fn settle_all(code: &[u32], n: u32, count: u32, down: bool, m: &mut [u8]) -> Outcome
     requires { ⌜ Laid (now code) n count × Proper n (now m) ⌝ }
-    ensures { λ r. ⌜ SettlesAll (now (code .entry)) n count count (now (m .entry)) (now (m .exit)) r ⌝ }
+    ensures { λ r. ⌜ SettlesAll (now (code .entry)) n count (now (m .entry)) (now (m .exit)) r ⌝ }
 {
     let mut all = Outcome::Same;
     let mut i: u32 = 0;
     while i < count {
-        let one = settle(code, n, i, m);
+        let one = settle(code, n, place(count, i, down), m);
         all = join(all, one);
         if is_clash(all) {
             return all;

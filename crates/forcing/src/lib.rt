@@ -2,6 +2,7 @@
 pub mod close;
 pub mod ground;
 pub mod heads;
+mod pass;
 pub mod support;
 
 // What closing a map came to: no closed map holds it, or the smallest that does, with so many atoms undecided.

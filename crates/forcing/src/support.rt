@@ -7,15 +7,17 @@ use weigh::step::is_clash;
 use weigh::step::join;
 ghost use Prim.Native.Nat.{ℕ};
 ghost use mathlib.Core.Path.{_≡_};
+ghost use mathlib.Core.Bool.{_&&_};
+ghost use lib.Dec.{eqb};
 ghost use Rattle.rules.specs.Sum.{has};
 ghost use Rattle.rules.specs.Rule.{Within};
-ghost use Rattle.rules.specs.Map.{side};
+ghost use Rattle.rules.specs.Map.{side, is};
 ghost use Rattle.rules.specs.Forcing.{supports};
 ghost use Rattle.table.specs.Words.{atomAt, atoms, Pair};
 ghost use Rattle.table.specs.Rows.{headsAt, positivesAt, ruleAt, rulesAt, Row, Laid};
 ghost use Rattle.weigh.specs.Weigh.{Room, Side};
 ghost use Rattle.weigh.specs.Step.{Proper};
-ghost use Rattle.forcing.specs.Support.{Counts, Small, PairCounts, Adds, Tells, TellsAt, BackAsks, Backs, BacksAll};
+ghost use Rattle.forcing.specs.Support.{Counts, CountAsks, Small, Adds, Stirs, Tells, TellsAt, BackAsks, Backs, BacksAll};
 
 // The count of atom a, one of n.
 fn count_of(counts: &[u32], n: u32, a: u32) -> u32
@@ -25,42 +27,63 @@ fn count_of(counts: &[u32], n: u32, a: u32) -> u32
     counts[(a - 1) as usize]
 }
 
-// One more for the atom of pair j.
-fn count_pair(code: &[u32], n: u32, j: u32, counts: &mut [u32])
-    requires { ⌜ Pair (now code) n j × Small n 1 (now counts) ⌝ }
-    ensures { λ r. ⌜ PairCounts (now (code .entry)) n j (now (counts .entry)) (now (counts .exit)) ⌝ }
+// One more for the atom of pair j, if it is in.
+fn count_pair(code: &[u32], n: u32, j: u32, m: &[u8], counts: &mut [u32])
+    requires { ⌜ Pair (now code) n j × CountAsks n (now m) 1 (now counts) ⌝ }
+    ensures { λ r. ⌜ Adds n (λ a. is 1 (side n (now (m .entry))) a && eqb a (atomAt (now (code .entry)) j)) (now (counts .entry)) (now (counts .exit)) ⌝ }
 {
     let a = table::atom_at(code, j);
+    if side_of(m, n, a) != 1 {
+        return;
+    }
     let old = count_of(counts, n, a);
     let k = (a - 1) as usize;
     counts[k] = old + 1;
 }
 
-// One more for each head of rule i.
-fn count_heads(code: &[u32], n: u32, i: u32, counts: &mut [u32])
-    requires { ⌜ Row (now code) n i × Small n 0 (now counts) ⌝ }
-    ensures { λ r. ⌜ Adds n (λ a. has a (atoms (now (code .entry)) (headsAt (now (code .entry)) i) (positivesAt (now (code .entry)) i))) (now (counts .entry)) (now (counts .exit)) ⌝ }
+// One more for each head of rule i that is in.
+fn count_heads(code: &[u32], n: u32, i: u32, m: &[u8], counts: &mut [u32])
+    requires { ⌜ Row (now code) n i × CountAsks n (now m) 0 (now counts) ⌝ }
+    ensures { λ r. ⌜ Adds n (λ a. is 1 (side n (now (m .entry))) a && has a (atoms (now (code .entry)) (headsAt (now (code .entry)) i) (positivesAt (now (code .entry)) i))) (now (counts .entry)) (now (counts .exit)) ⌝ }
 {
     let end = table::positives_at(code, i);
     let mut j = table::heads_at(code, i);
     while j < end {
-        count_pair(code, n, j, counts);
+        count_pair(code, n, j, m, counts);
         j += 1;
     }
 }
 
-// One more for each head that rule i can still give.
-fn count_rule(code: &[u32], n: u32, i: u32, m: &[u8], counts: &mut [u32])
-    requires { ⌜ Row (now code) n i × (Room n (now m) × Small n 0 (now counts)) ⌝ }
-    ensures { λ r. ⌜ Adds n (λ a. supports a (side n (now (m .entry))) (ruleAt (now (code .entry)) i)) (now (counts .entry)) (now (counts .exit)) ⌝ }
+// May a head of rule i be in?
+fn stirs(code: &[u32], n: u32, i: u32, m: &[u8]) -> bool
+    requires { ⌜ Row (now code) n i × Room n (now m) ⌝ }
+    ensures { λ r. ⌜ Stirs (ruleAt (now (code .entry)) i) (side n (now (m .entry))) r ⌝ }
 {
-    if reach(code, n, i, m) < table::need_at(code, i) {
-        return;
+    let end = table::positives_at(code, i);
+    let mut j = table::heads_at(code, i);
+    while j < end {
+        if side_of(m, n, table::atom_at(code, j)) == 1 {
+            return true;
+        }
+        j += 1;
     }
-    count_heads(code, n, i, counts);
+    false
 }
 
-// For each atom, how many rules can still give it.
+// One more for each head that is in and that rule i can still give.
+fn count_rule(code: &[u32], n: u32, i: u32, m: &[u8], counts: &mut [u32])
+    requires { ⌜ Row (now code) n i × CountAsks n (now m) 0 (now counts) ⌝ }
+    ensures { λ r. ⌜ Adds n (λ a. is 1 (side n (now (m .entry))) a && supports a (side n (now (m .entry))) (ruleAt (now (code .entry)) i)) (now (counts .entry)) (now (counts .exit)) ⌝ }
+{
+    if stirs(code, n, i, m) {
+        if reach(code, n, i, m) < table::need_at(code, i) {
+            return;
+        }
+        count_heads(code, n, i, m, counts);
+    }
+}
+
+// For each atom that is in, how many rules can still give it.
 pub fn count_all(code: &[u32], n: u32, count: u32, m: &[u8], counts: &mut [u32])
     requires { ⌜ Laid (now code) n count × (Room n (now m) × (Room n (now counts) × ((a : ℕ) → Within n a → side n (now counts) a ≡ 0))) ⌝ }
     ensures { λ r. ⌜ Counts (rulesAt (now (code .entry)) count) n (side n (now (m .entry))) (now (counts .exit)) ⌝ }

@@ -14,7 +14,8 @@ use Rattle.rules.proofs.Bytes.{side-at, side-index, index-within}
 use Rattle.rules.proofs.Least.{holding-up}
 use Rattle.rules.proofs.First.{leaf, try-in, try-out, try-none, branch-first, branch-none, branch-clash}
 use Rattle.table.specs.Rows.{rulesAt}
-use Rattle.search.specs.Search.{sheetFor, LowestAt, Stands, Open, ClosedGuess, Tries, Answers, Follows}
+use Rattle.forcing.specs.Close.{LowestAt}
+use Rattle.search.specs.Search.{sheetFor, Stands, Open, ClosedGuess, Tries, Answers, Follows}
 
 module _ {c : List ℕ} {n count : ℕ} {m : List ℕ} where
   -- nothing is left to decide

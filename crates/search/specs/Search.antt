@@ -1,27 +1,21 @@
 -- "The search takes the lowest undecided atom, first with the atom in, then with it out, and between the two the map is put back as
 -- it stood before the guess." "Solve: the first agreeing stable model as a map of 1s and 2s, or none."
-use Prim.Native.Nat.{ℕ, _≤_, _<_}
+use Prim.Native.Nat.{ℕ, _<_}
 use mathlib.Core.Path.{_≡_}
 use mathlib.Core.Bool.{Bool, true, false}
 use mathlib.Core.List.{List}
-use lib.ListN.{getD}
 use Rattle.rules.specs.Rule.{Sheet, Within, Numbered}
 use Rattle.rules.specs.Stable.{Set, FirstOf}
 use Rattle.rules.specs.Map.{Holding, IsMap, side, is}
 use Rattle.rules.specs.Forcing.{Closed, Least, Contradiction, computed}
 use Rattle.rules.specs.Search.{Above, Branch, Guess}
 use Rattle.table.specs.Rows.{rulesAt, Laid}
+use Rattle.forcing.specs.Close.{LowestAt}
 use Rattle.weigh.specs.Step.{Proper, undecided}
 
 -- the sheet whose rules stand in the table, with these compute lists
 abbrev pub sheetFor : List ℕ → ℕ → ℕ → List ℕ → List ℕ → Sheet
 sheetFor c n count ins outs = record { atoms = n; rules = rulesAt c count; computeIn = ins; computeOut = outs }
-
--- the lowest undecided atom has this index; at n there is none
-pub record LowestAt (n : ℕ) (m : List ℕ) (i : ℕ) : Type 0 where
-  pub within : i ≤ n
-  pub lower : (k : ℕ) → k < i → getD m k 0 ≡ 0 → ⊥
-  pub here : i < n → getD m i 0 ≡ 0
 
 -- a closed map over a table
 pub record Stands (c : List ℕ) (n count : ℕ) (m : List ℕ) : Type 0 where

@@ -1,11 +1,11 @@
 // The search for the first model above a closed map.
 use forcing::Closing;
 use forcing::close::close;
+use forcing::close::lowest;
 use rules::Atom;
 use weigh::press::side_for;
 ghost use Prim.Native.Nat.{_+_, _<_};
-ghost use Rattle.weigh.specs.Step.{Proper};
-ghost use Rattle.search.specs.Search.{LowestAt, Stands, Open, Tries, Follows, Answers};
+ghost use Rattle.search.specs.Search.{Stands, Open, Tries, Follows, Answers};
 
 // A model's map, or that there is none.
 pub struct Found {
@@ -17,21 +17,6 @@ pub struct Found {
 pub struct Guessed {
     pub closed: bool,
     pub map: [u8; Atom::LAST],
-}
-
-// The index of the lowest undecided atom, or n.
-fn lowest(m: &[u8], n: u32) -> u32
-    requires { ⌜ Proper n (now m) ⌝ }
-    ensures { λ r. ⌜ LowestAt n (now (m .entry)) r ⌝ }
-{
-    let mut i: u32 = 0;
-    while i < n {
-        if m[i as usize] == 0 {
-            return i;
-        }
-        i += 1;
-    }
-    i
 }
 
 // The map with the atom at this index put on one side, closed.

@@ -17,7 +17,7 @@ use Rattle.search.proofs.trial.Reads as trial
 use Rattle.search.proofs.trial.Kinds as trial-kinds
 use Rattle.search.proofs.+choose+follow+trial.Lts-trial as trial-lts
 use Rattle.search.proofs.guess.Reads as guess-reads
-use Rattle.search.proofs.lowest.Reads as lowest-reads
+use Rattle.forcing.proofs.close.lowest.Reads as lowest-reads
 use Rattle.search.proofs.+choose+follow+trial.{statement}
 use Rattle.search.proofs.+choose+follow+trial.Tie.{close}
 

@@ -1,21 +1,13 @@
 -- `pin_atom` meets its contract: the map is copied, the pin is put on the copy, and that is closed and handed over.
-use native.Mathlib.Omega.{arith}
-use Rattle.rules.specs.Limits.{atomsMost, rulesMost, bytesMost}
-use Rattle.table.specs.Words.{pairWidth}
-use Rattle.decode.specs.Decode.{tableWords}
-use Rattle.weigh.proofs.Bytes.{blank-room}
-use Rattle.desk.proofs.Works.{coded, words-ready}
-use Rattle.desk.proofs.Pinning.{copied-proper, pin-ends}
 use borrow.Author.Needs.{needs}
+use denote.Ref.{now}
+use Rattle.rules.specs.Limits.{atomsMost}
+use Rattle.sheet.specs.Meaning.{sheetMeant}
+use Rattle.weigh.proofs.Bytes.{blank-room}
+use Rattle.desk.proofs.Works.{few-atoms}
+use Rattle.desk.proofs.Pinning.{copied-proper, pin-ends}
 use Rattle.desk.proofs.pin.pin_atom.Statement.{statement}
 use Rattle.desk.proofs.pin.pin_atom.Tie as tie
-
-slice-aggregate-decode : tie.Need-slice-aggregate-decode
-slice-aggregate-decode c = search needs
-
-decode-requires : tie.Need-decode-requires
-unfolding tableWords pairWidth bytesMost
-decode-requires c κs = words-ready (c .before .before .before .pre .ready .ready .accepted)
 
 slice-aggregate-copy : tie.Need-slice-aggregate-copy
 slice-aggregate-copy c = search needs
@@ -23,76 +15,54 @@ slice-aggregate-copy c = search needs
 copy-requires : tie.Need-copy-requires
 unfolding atomsMost
 copy-requires c κs =
-    let d = c .before .before .before .before .decode .ensures in
-    record { source = c .before .before .before .before .before .before .before .before .pre .ready .ready .room; target = blank-room atomsMost _ (d .laid .fewAtoms) }
+    let a = c .before .before .before .before .args in
+    let p = c .before .before .before .before .pre .ready .ready in
+    record { source = p .room; target = blank-room atomsMost _ (few-atoms (now (a .s)) (a .sheet) (p .accepted)) }
 
-slice-aggregate-press : tie.Need-slice-aggregate-press
-slice-aggregate-press c = search needs
+slice-aggregate-press-sheet : tie.Need-slice-aggregate-press-sheet
+slice-aggregate-press-sheet c = search needs
 
-cast-press : tie.Need-cast-press
+press-sheet-requires : tie.Need-press-sheet-requires
 unfolding atomsMost
-cast-press c = omega (arith, c .before .before .before .before .before .before .before .decode .ensures .laid .fewAtoms)
-
-cast-press-2 : tie.Need-cast-press-2
-unfolding rulesMost
-cast-press-2 c = omega (arith, c .before .before .before .before .before .before .before .before .decode .ensures .laid .fewRules)
-
-cast-press-3 : tie.Need-cast-press-3
-unfolding atomsMost
-cast-press-3 c = omega (arith, c .before .before .before .before .before .before .before .before .decode .ensures .laid .fewAtoms, c .before .before .before .before .before .before .before .before .before .before .before .before .pre .ready .within .high)
-
-slice-aggregate-press-2 : tie.Need-slice-aggregate-press-2
-slice-aggregate-press-2 c = search needs
-
-press-requires : tie.Need-press-requires
-unfolding atomsMost
-press-requires c κs =
-    let d = c .before .before .before .before .before .before .before .before .before .decode .ensures in
-    let e = c .before .before .before .before .before .before .before .before .before .before .before .before .before in
-    record {
-      laid = d .laid;
-      within = e .pre .ready .within;
-      proper = copied-proper (e .pre .proper) (c .before .before .before .before .copy .ensures) (blank-room atomsMost _ (d .laid .fewAtoms));
-    }
+press-sheet-requires c κs =
+    let a = c .before .before .before .before .before .before .before .args in
+    let p = c .before .before .before .before .before .before .before .pre in
+    let e = p .ready .ready .accepted in (
+      e,
+      record {
+        within = p .ready .within;
+        proper = copied-proper (p .proper) (c .before .before .copy .ensures) (blank-room atomsMost _ (few-atoms (now (a .s)) (a .sheet) e));
+      },
+    )
 
 slice-aggregate-hand-over : tie.Need-slice-aggregate-hand-over
 slice-aggregate-hand-over c = search needs
 
 hand-over-requires : tie.Need-hand-over-requires
-hand-over-requires c κs = search needs
+unfolding sheetMeant
+hand-over-requires c κs =
+    record { source = c .before .before .before .press-sheet .ensures .kept .proper .room; target = c .before .before .before .before .before .before .before .before .before .before .before .pre .ready .ready .room }
 
 same-length : tie.Need-same-length
 same-length c = search needs
 
 returns : tie.Need-returns
+unfolding sheetMeant
 returns c =
-    let d = c .before .before .before .before .before .before .before .before .before .before .before .before .before .before .before .before .decode .ensures in
-    let e = c .before .before .before .before .before .before .before .before .before .before .before .before .before .before .before .before .before .before .before .before in
-    let f = c .before .before .before .before .before .before .press .ensures in
-    pin-ends
-    (e .args .side)
-    _
-    _
-    (coded (e .pre .ready .ready .accepted) d)
-    (c .before .before .before .before .before .before .before .before .before .before .before .copy .ensures)
-    (record { source = f .kept .proper .room; target = e .pre .ready .ready .room })
-    f
-    (c .before .before .hand-over .ensures)
+    let a = c .before .before .before .before .before .before .before .before .before .before .before .before .before .before .args in
+    let p = c .before .before .before .before .before .before .before .before .before .before .before .before .before .before .pre .ready .ready in
+    let f = c .before .before .before .before .before .before .press-sheet .ensures in
+    pin-ends (now (a .s)) (a .sheet) (a .side) _ _ (c .before .before .before .before .before .before .before .before .before .copy .ensures)
+    (record { source = f .kept .proper .room; target = p .room }) f (c .before .before .hand-over .ensures)
 
 pub pin-atom-spec : {M : Type 1} → statement M
 pin-atom-spec =
     tie.close
     (tie.spec
-    slice-aggregate-decode
-    decode-requires
     slice-aggregate-copy
     copy-requires
-    slice-aggregate-press
-    cast-press
-    cast-press-2
-    cast-press-3
-    slice-aggregate-press-2
-    press-requires
+    slice-aggregate-press-sheet
+    press-sheet-requires
     slice-aggregate-hand-over
     hand-over-requires
     same-length

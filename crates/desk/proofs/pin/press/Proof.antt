@@ -5,7 +5,7 @@ use Rattle.desk.proofs.pin.press.Statement.{statement}
 use Rattle.desk.proofs.pin.press.Tie as tie
 
 hold-atom-requires : tie.Need-hold-atom-requires
-hold-atom-requires c κs = search needs
+hold-atom-requires c κs = (c .before .before .before .pre .pinned .proper, c .before .before .before .pre .pinned .within)
 
 close-requires : tie.Need-close-requires
 close-requires c κs = search needs

@@ -11,10 +11,10 @@ use Rattle.forcing.proofs.close.close.Statement.{statement}
 use Rattle.forcing.proofs.close.close.Tie as tie
 
 abbrev Inv-loop : tie.InvT-loop
-Inv-loop code n count m₀ m = Closes code n count m₀ m
+Inv-loop code n count m₀ down₀ m down = Closes code n count m₀ m
 
 abbrev μ-loop : tie.MeasureT-loop
-μ-loop code n count m₀ m = undecided n m
+μ-loop code n count m₀ down₀ m down = undecided n m
 
 loop-holds : tie.Need-loop-holds Inv-loop μ-loop
 loop-holds c =
@@ -33,10 +33,10 @@ more :
     (c .before .before .before .before .before .before .before .before .before .args .n)
     (c .before .before .before .before .before .before .before .before .before .args .count)
     (now (c .before .before .before .before .before .before .before .before .before .args .m))
-    (c .before .before .before .before .round .last .1 .1 .1 .0)
+    (c .before .before .before .before .round .last .1 .1 .1 .1 .0)
     ×
     (undecided (c .before .before .before .before .before .before .before .before .before .args .n)
-    (c .before .before .before .before .round .last .1 .1 .1 .0) < undecided
+    (c .before .before .before .before .round .last .1 .1 .1 .1 .0) < undecided
     (c .before .before .before .before .before .before .before .before .before .args .n)
     (c .before .before .before .before .before .before .loop .m))
 more c =

@@ -10,10 +10,10 @@ use Rattle.forcing.proofs.ground.founded.Statement.{statement}
 use Rattle.forcing.proofs.ground.founded.Tie as tie
 
 abbrev Inv-loop : tie.InvT-loop
-Inv-loop code n count m u₀ u = Founding code n count m u₀ u
+Inv-loop code n count m u₀ down₀ u down = Founding code n count m u₀ u
 
 abbrev μ-loop : tie.MeasureT-loop
-μ-loop code n count m u₀ u = undecided n u
+μ-loop code n count m u₀ down₀ u down = undecided n u
 
 loop-holds : tie.Need-loop-holds Inv-loop μ-loop
 loop-holds c =
@@ -37,10 +37,10 @@ more :
     (c .before .before .before .before .before .before .before .before .before .before .args .count)
     (now (c .before .before .before .before .before .before .before .before .before .before .args .m))
     (now (c .before .before .before .before .before .before .before .before .before .before .args .u))
-    (c .before .before .before .before .ground-all .last .1 .1 .1 .1 .0)
+    (c .before .before .before .before .ground-all .last .1 .1 .1 .1 .1 .0)
     ×
     (undecided (c .before .before .before .before .before .before .before .before .before .before .args .n)
-    (c .before .before .before .before .ground-all .last .1 .1 .1 .1 .0) < undecided
+    (c .before .before .before .before .ground-all .last .1 .1 .1 .1 .1 .0) < undecided
     (c .before .before .before .before .before .before .before .before .before .before .args .n)
     (c .before .before .before .before .before .before .loop .u))
 more c =

@@ -1,36 +1,53 @@
--- `forcing::ground::ground_all`: what the rules before the present one give from U is in U, or something was added.
+-- `forcing::ground::ground_all`: what the rules visited before the present one give from U is in U, or something was added.
 use denote.Ref.{now}
-use Prim.Native.Nat.{_-_}
+use Prim.Native.Nat.{ℕ, _-_, _<_}
+use mathlib.Core.Bool.{Bool}
+use mathlib.Core.List.{List}
 use native.Mathlib.Omega.{arith}
 use borrow.Author.Needs.{needs}
-use Rattle.rules.specs.Map.{side}
+use Rattle.rules.specs.Map.{Map, side}
 use Rattle.table.specs.Rows.{ruleAt, rulesAt}
 use Rattle.table.proofs.Rows.{rule-mem}
-use Rattle.forcing.specs.Ground.{Grounding, Grounded, GroundsAll}
-use Rattle.weigh.proofs.Steps.{steps-begin, steps-more, steps-end}
+use Rattle.weigh.specs.Step.{Step, Till}
+use Rattle.forcing.specs.Pass.{placed}
+use Rattle.forcing.specs.Ground.{Grounding, Grounded}
+use Rattle.weigh.proofs.Steps.{quieter, steps-begin, steps-more, steps-end}
+use Rattle.forcing.proofs.Passes.{placed-less, visited, at-place}
 use Rattle.forcing.proofs.ground.ground_all.Statement.{statement}
 use Rattle.forcing.proofs.ground.ground_all.Tie as tie
 
+-- what the k-th rule that is visited gives from U is in U
+abbrev Visited : List ℕ → ℕ → Bool → Map → ℕ → Map → Type 0
+Visited code count down M k = Grounded (ruleAt code (placed down count k)) M
+
 abbrev Inv-loop : tie.InvT-loop
-Inv-loop code n count m u₀ all₀ i₀ u all i = GroundsAll code n count m u₀ i u all
+Inv-loop code n count down m u₀ all₀ i₀ u all i =
+    Step (Grounding (rulesAt code count) (side n m)) n (Till (Visited code count down (side n m)) 0 i) u₀ u all
 
 abbrev μ-loop : tie.MeasureT-loop
-μ-loop code n count m u₀ all₀ i₀ u all i = count - i
+μ-loop code n count down m u₀ all₀ i₀ u all i = count - i
 
 loop-holds : tie.Need-loop-holds Inv-loop μ-loop
 loop-holds c =
     let a = c .before .before .before .args in
     steps-begin (Grounding (rulesAt (now (a .code)) (a .count)) (side (a .n) (now (a .m)))) (a .n)
-    (λ k. Grounded (ruleAt (now (a .code)) k) (side (a .n) (now (a .m)))) 0 (now (a .u)) (c .before .before .before .pre .1 .1)
+    (Visited (now (a .code)) (a .count) (a .down) (side (a .n) (now (a .m)))) 0 (now (a .u)) (c .before .before .before .pre .1 .1)
+
+place-requires : tie.Need-place-requires Inv-loop μ-loop
+place-requires c κs = c .loop-test .taken
+
+-- the present rule is one of the table
+row : (c : tie.After-place Inv-loop μ-loop) → c .place .result < c .before .before .before .before .before .before .args .count
+row c =
+    let a = c .before .before .before .before .before .before .args in
+    omega (arith, c .place .ensures, placed-less (a .down) (a .count) (c .before .before .loop .i) (c .before .loop-test .taken))
 
 ground-requires : tie.Need-ground-requires Inv-loop μ-loop
 ground-requires c κs =
     record {
-      row = c .before .before .before .before .before .before .pre .0 .rows (c .before .before .loop .i)
-          (c .before .loop-test .taken);
-      proper = c .before .before .before .before .before .before .pre .1 .0;
-      space =
-          c .before .before .loop .inv .kept .proper;
+      row = c .before .before .before .before .before .before .before .pre .0 .rows (c .before .place .result) (row (c .before));
+      proper = c .before .before .before .before .before .before .before .pre .1 .0;
+      space = c .before .before .before .loop .inv .kept .proper;
     }
 
 join-requires : tie.Need-join-requires Inv-loop μ-loop
@@ -44,14 +61,16 @@ loop-less c = omega arith
 
 loop-again : tie.Need-loop-again Inv-loop μ-loop
 loop-again c =
-    let a = c .before .before .before .before .before .before .before .before .before .before .args in
+    let a = c .before .before .before .before .before .before .before .before .before .before .before .args in
     steps-more (Grounding (rulesAt (now (a .code)) (a .count)) (side (a .n) (now (a .m)))) (a .n)
-    (λ k. Grounded (ruleAt (now (a .code)) k) (side (a .n) (now (a .m)))) 0
-    (c .before .before .before .before .before .before .loop .i) (now (a .u)) _ _ _ _ _
-    (c .before .before .before .before .before .before .loop .inv) (c .before .before .before .ground .ensures .kept)
-    (λ up. c .before .before .before .ground .ensures .step (rulesAt (now (a .code)) (a .count))
-    (rule-mem (now (a .code)) (a .count) (c .before .before .before .before .before .before .loop .i)
-    (c .before .before .before .before .before .loop-test .taken)))
+    (Visited (now (a .code)) (a .count) (a .down) (side (a .n) (now (a .m)))) 0 (c .before .before .before .before .before .before .before .loop .i) (now (a .u)) _ _ _ _ _
+    (c .before .before .before .before .before .before .before .loop .inv) (c .before .before .before .ground .ensures .kept)
+    (λ up.
+    at-place (Grounding (rulesAt (now (a .code)) (a .count)) (side (a .n) (now (a .m)))) (a .n)
+    (λ x. Grounded (ruleAt (now (a .code)) x) (side (a .n) (now (a .m))))
+    (c .before .before .before .before .before .place .ensures)
+    (c .before .before .before .ground .ensures .step (rulesAt (now (a .code)) (a .count))
+    (rule-mem (now (a .code)) (a .count) (c .before .before .before .before .before .place .result) (row (c .before .before .before .before .before)))))
     (c .join .ensures)
 
 same-length : tie.Need-same-length Inv-loop μ-loop
@@ -60,9 +79,13 @@ same-length c = c .before .loop .inv .kept .long
 returns : tie.Need-returns Inv-loop μ-loop
 returns c =
     let a = c .before .before .before .before .before .args in
-    steps-end (Grounding (rulesAt (now (a .code)) (a .count)) (side (a .n) (now (a .m)))) (a .n)
-    (λ k. Grounded (ruleAt (now (a .code)) k) (side (a .n) (now (a .m)))) 0 (a .count) (c .before .loop .i) _ _ _
-    (c .loop-test .left) (c .before .loop .inv)
+    quieter (Grounding (rulesAt (now (a .code)) (a .count)) (side (a .n) (now (a .m)))) (a .n)
+    (Till (Visited (now (a .code)) (a .count) (a .down) (side (a .n) (now (a .m)))) 0 (a .count))
+    (Till (λ k. Grounded (ruleAt (now (a .code)) k) (side (a .n) (now (a .m)))) 0 (a .count)) _ _ _
+    (visited (λ k. Grounded (ruleAt (now (a .code)) k) (side (a .n) (now (a .m)))) (a .down) (a .count) _)
+    (steps-end (Grounding (rulesAt (now (a .code)) (a .count)) (side (a .n) (now (a .m)))) (a .n)
+    (Visited (now (a .code)) (a .count) (a .down) (side (a .n) (now (a .m)))) 0 (a .count) (c .before .loop .i) _ _ _
+    (c .loop-test .left) (c .before .loop .inv))
 
 pub ground-all-spec : {M : Type 1} → statement M
 ground-all-spec =
@@ -71,6 +94,7 @@ ground-all-spec =
     Inv-loop
     μ-loop
     loop-holds
+    place-requires
     ground-requires
     join-requires
     add-i

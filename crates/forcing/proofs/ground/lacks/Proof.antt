@@ -1,19 +1,19 @@
 -- `forcing::ground::lacks`: no head before the present one is missing.
 use denote.Ref.{now}
-use Prim.Native.Nat.{ℕ, _-_, _≤_, _<_}
+use Prim.Native.Nat.{_-_, _≤_}
 use native.Mathlib.Omega.{arith}
 use borrow.Author.Needs.{needs}
 use Rattle.rules.specs.Map.{side}
-use Rattle.table.specs.Words.{atomAt}
 use Rattle.table.specs.Rows.{headsAt}
 use Rattle.forcing.specs.Ground.{Unless}
+use Rattle.forcing.proofs.HeadScans.{Sofar}
 use Rattle.forcing.proofs.Groundings.{lacks-more, lacks-none}
 use Rattle.forcing.proofs.ground.lacks.Statement.{statement}
 use Rattle.forcing.proofs.ground.lacks.Tie as tie
 
 abbrev Inv-loop : tie.InvT-loop
 Inv-loop code n i m u end j₀ j =
-    (headsAt code i ≤ j) × ((k : ℕ) → headsAt code i ≤ k → k < j → Unless (side n m) (atomAt code k) 2 1 (side n u))
+    (headsAt code i ≤ j) × Sofar code i (λ a. Unless (side n m) a 2 1 (side n u)) j
 
 abbrev μ-loop : tie.MeasureT-loop
 μ-loop code n i m u end j₀ j = end - j

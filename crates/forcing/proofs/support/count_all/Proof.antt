@@ -28,12 +28,12 @@ count-rule-requires : tie.Need-count-rule-requires Inv-loop μ-loop
 count-rule-requires c κs =
     let a = c .before .before .before .before .before .before .args in (
       c .before .before .before .before .before .before .pre .0 .rows (c .before .before .loop .i) (c .before .loop-test .taken),
-      (
-        c .before .before .before .before .before .before .pre .1 .0,
-        counting-small (now (a .code)) (a .n) (a .count)
-            (side (a .n) (now (a .m))) (c .before .before .loop .i) _
-            (c .before .before .before .before .before .before .pre .0 .fewRules) (c .before .before .loop .inv .1),
-      ),
+      record {
+        map = c .before .before .before .before .before .before .pre .1 .0;
+        small =
+            counting-small (now (a .code)) (a .n) (a .count) (side (a .n) (now (a .m))) (c .before .before .loop .i) _ (c .before .before .before .before .before .before .pre .0 .fewRules)
+            (c .before .before .loop .inv .1);
+      },
     )
 
 add-i : tie.Need-add-i Inv-loop μ-loop

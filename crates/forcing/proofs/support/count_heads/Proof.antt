@@ -3,16 +3,17 @@ use denote.Ref.{now}
 use Prim.Native.Nat.{_-_}
 use native.Mathlib.Omega.{arith}
 use borrow.Author.Needs.{needs}
+use Rattle.rules.specs.Map.{side}
 use Rattle.forcing.specs.Support.{Heading}
 use Rattle.forcing.proofs.Counting.{heading-begin, heading-small, heading-more, heading-end}
 use Rattle.forcing.proofs.support.count_heads.Statement.{statement}
 use Rattle.forcing.proofs.support.count_heads.Tie as tie
 
 abbrev Inv-loop : tie.InvT-loop
-Inv-loop code n i counts₀ end j₀ counts j = Heading code n i counts₀ j counts
+Inv-loop code n i m counts₀ end j₀ counts j = Heading code n i (side n m) counts₀ j counts
 
 abbrev μ-loop : tie.MeasureT-loop
-μ-loop code n i counts₀ end j₀ counts j = end - j
+μ-loop code n i m counts₀ end j₀ counts j = end - j
 
 positives-at-requires : tie.Need-positives-at-requires Inv-loop μ-loop
 positives-at-requires c κs = search needs
@@ -22,19 +23,20 @@ heads-at-requires c κs = search needs
 
 loop-holds : tie.Need-loop-holds Inv-loop μ-loop
 loop-holds c =
-    let a = c .before .before .before .before .args in
-    heading-begin (now (a .code)) (a .n) (a .i) (c .before .before .before .before .pre .0) (now (a .counts)) _
-    (c .heads-at .ensures)
+    let a = c .before .before .before .before .before .args in
+    heading-begin (now (a .code)) (a .n) (a .i) (c .before .before .before .before .before .pre .0) (side (a .n) (now (a .m))) (now (a .counts)) _ (c .heads-at .ensures)
 
 count-pair-requires : tie.Need-count-pair-requires Inv-loop μ-loop
 count-pair-requires c κs =
-    let a = c .before .before .before .before .before .before .before .args in (
-      c .before .before .before .before .before .before .before .pre .0 .heads .pairs (c .before .before .loop .j)
-          (c .before .before .loop .inv .low)
+    let a = c .before .before .before .before .before .before .before .before .args in (
+      c .before .before .before .before .before .before .before .before .pre .0 .heads .pairs (c .before .before .loop .j) (c .before .before .loop .inv .low)
           (omega (arith, c .before .loop-test .taken, c .before .before .before .before .positives-at .ensures)),
-      heading-small
-          (now (a .code)) (a .n) (a .i) (c .before .before .before .before .before .before .before .pre .0) (now (a .counts))
-          (c .before .before .before .before .before .before .before .pre .1) _ _ (c .before .before .loop .inv),
+      record {
+        map = c .before .before .before .before .before .before .before .before .pre .1 .map;
+        small =
+            heading-small (now (a .code)) (a .n) (a .i) (c .before .before .before .before .before .before .before .before .pre .0) (side (a .n) (now (a .m))) (now (a .counts))
+            (c .before .before .before .before .before .before .before .before .pre .1 .small) _ _ (c .before .before .loop .inv);
+      },
     )
 
 add-j : tie.Need-add-j Inv-loop μ-loop
@@ -45,31 +47,19 @@ loop-less c = omega arith
 
 loop-again : tie.Need-loop-again Inv-loop μ-loop
 loop-again c =
-    let a = c .before .before .before .before .before .before .before .before .before .before .args in
-    heading-more (now (a .code)) (a .n) (a .i)
-    (c .before .before .before .before .before .before .before .before .before .before .pre .0) (now (a .counts))
-    (c .before .before .before .before .before .loop .j) _ _
-    (omega (
-      arith,
-      c .before .before .before .before .loop-test .taken,
-      c .before .before .before .before .before .before .before .positives-at .ensures,
-    ))
-    (omega (
-      arith,
-      c .before .before .before .before .before .loop .inv .long,
-      c .before .before .before .before .before .before .before .before .before .before .pre .1 .room,
-    ))
-    (c .before .before .before .before .before .loop .inv) (c .before .before .count-pair .ensures)
+    let a = c .before .before .before .before .before .before .before .before .before .before .before .args in
+    heading-more (now (a .code)) (a .n) (a .i) (c .before .before .before .before .before .before .before .before .before .before .before .pre .0) (side (a .n) (now (a .m))) (now (a .counts)) (c .before .before .before .before .before .loop .j) _ _
+    (omega (arith, c .before .before .before .before .loop-test .taken, c .before .before .before .before .before .before .before .positives-at .ensures)) (c .before .before .count-pair .kept .1 .1 .1 .1 .0) (c .before .before .before .before .before .loop .inv)
+    (c .before .before .count-pair .ensures)
 
 same-length : tie.Need-same-length Inv-loop μ-loop
 same-length c = c .before .loop .inv .long
 
 returns : tie.Need-returns Inv-loop μ-loop
 returns c =
-    let a = c .before .before .before .before .before .before .args in
-    heading-end (now (a .code)) (a .n) (a .i) (c .before .before .before .before .before .before .pre .0) (now (a .counts))
-    (c .before .loop .j) _ (omega (arith, c .loop-test .left, c .before .before .before .positives-at .ensures))
-    (c .before .loop .inv)
+    let a = c .before .before .before .before .before .before .before .args in
+    heading-end (now (a .code)) (a .n) (a .i) (c .before .before .before .before .before .before .before .pre .0) (side (a .n) (now (a .m))) (now (a .counts)) (c .before .loop .j) _
+    (omega (arith, c .loop-test .left, c .before .before .before .positives-at .ensures)) (c .before .loop .inv)
 
 pub count-heads-spec : {M : Type 1} → statement M
 count-heads-spec =

@@ -1,19 +1,19 @@
 -- `forcing::support::has_lone`: no head before the present one is so.
 use denote.Ref.{now}
-use Prim.Native.Nat.{ℕ, _-_, _≤_, _<_}
+use Prim.Native.Nat.{_-_, _≤_}
 use native.Mathlib.Omega.{arith}
 use borrow.Author.Needs.{needs}
 use Rattle.rules.specs.Map.{side}
-use Rattle.table.specs.Words.{atomAt}
 use Rattle.table.specs.Rows.{headsAt}
 use Rattle.forcing.specs.Support.{NotLone}
+use Rattle.forcing.proofs.HeadScans.{Sofar}
 use Rattle.forcing.proofs.Backing.{lone-here, lone-more, lone-nowhere}
 use Rattle.forcing.proofs.support.has_lone.Statement.{statement}
 use Rattle.forcing.proofs.support.has_lone.Tie as tie
 
 abbrev Inv-loop : tie.InvT-loop
 Inv-loop code n i m counts end j₀ j =
-    (headsAt code i ≤ j) × ((k : ℕ) → headsAt code i ≤ k → k < j → NotLone n (side n m) counts (atomAt code k))
+    (headsAt code i ≤ j) × Sofar code i (NotLone n (side n m) counts) j
 
 abbrev μ-loop : tie.MeasureT-loop
 μ-loop code n i m counts end j₀ j = end - j

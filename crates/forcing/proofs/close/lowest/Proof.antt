@@ -1,11 +1,11 @@
--- `lowest` meets its contract: every index that the loop has passed has a byte that is not 0.
+-- `forcing::close::lowest`: every index that the loop has passed has a byte that is not 0.
 use Prim.Native.Nat.{ℕ, _≤_, _<_, _-_}
 use mathlib.Core.Path.{_≡_}
 use borrow.Author.Needs.{needs}
 use borrow.Author.Count.{below-more}
 use lib.ListN.{getD}
-use Rattle.search.proofs.lowest.Statement.{statement}
-use Rattle.search.proofs.lowest.Tie as tie
+use Rattle.forcing.proofs.close.lowest.Statement.{statement}
+use Rattle.forcing.proofs.close.lowest.Tie as tie
 
 abbrev Inv-loop : tie.InvT-loop
 Inv-loop m n i₀ i = (i ≤ n) × ((k : ℕ) → k < i → getD m k 0 ≡ 0 → ⊥)
