@@ -70,7 +70,7 @@ fn of_refusal(why: Refusal) -> u64
     code(why.number as u64, why.place as u64)
 }
 
-pub fn of_checked(answer: Checked) -> u64
+pub(crate) fn of_checked(answer: Checked) -> u64
     ensures { λ r. ⌜ r ≡ codeChecked answer ⌝ }
 {
     match answer {
@@ -79,7 +79,7 @@ pub fn of_checked(answer: Checked) -> u64
     }
 }
 
-pub fn of_opened(answer: Opened) -> u64
+pub(crate) fn of_opened(answer: Opened) -> u64
     ensures { λ r. ⌜ r ≡ codeOpened answer ⌝ }
 {
     match answer {
@@ -89,7 +89,7 @@ pub fn of_opened(answer: Opened) -> u64
     }
 }
 
-pub fn of_solved(answer: Solved) -> u64
+pub(crate) fn of_solved(answer: Solved) -> u64
     ensures { λ r. ⌜ r ≡ codeSolved answer ⌝ }
 {
     match answer {
@@ -99,7 +99,7 @@ pub fn of_solved(answer: Solved) -> u64
     }
 }
 
-pub fn of_tested(answer: Tested) -> u64
+pub(crate) fn of_tested(answer: Tested) -> u64
     ensures { λ r. ⌜ r ≡ codeTested answer ⌝ }
 {
     match answer {
@@ -109,7 +109,7 @@ pub fn of_tested(answer: Tested) -> u64
     }
 }
 
-pub fn of_margin(answer: Margin) -> u64
+pub(crate) fn of_margin(answer: Margin) -> u64
     ensures { λ r. ⌜ r ≡ codeMargin answer ⌝ }
 {
     match answer {
@@ -118,7 +118,7 @@ pub fn of_margin(answer: Margin) -> u64
     }
 }
 
-pub fn of_part(answer: Part) -> u64
+pub(crate) fn of_part(answer: Part) -> u64
     ensures { λ r. ⌜ r ≡ codePart answer ⌝ }
 {
     match answer {

@@ -7,7 +7,7 @@ use io::print_decimal;
 use libc::STDOUT_FILENO;
 use numbers::Refusal;
 
-pub fn say(text: &[u8]) {
+pub(crate) fn say(text: &[u8]) {
     io::write_all(STDOUT_FILENO, text);
 }
 
@@ -20,7 +20,7 @@ fn wide(b: u8) -> u64 {
 }
 
 // The first n bytes of a map, each after a space, and the end of the line.
-pub fn show_map(map: &[u8], n: usize) {
+pub(crate) fn show_map(map: &[u8], n: usize) {
     let mut i = 0;
     while i < n {
         if i < map.len() {
@@ -32,14 +32,14 @@ pub fn show_map(map: &[u8], n: usize) {
     say(b"\n");
 }
 
-pub fn show_refusal(why: Refusal) {
+pub(crate) fn show_refusal(why: Refusal) {
     say(b" refused by ");
     say_number(why.number as u64);
     say(b" at ");
     say_number(why.place as u64);
 }
 
-pub fn show_checked(answer: Checked) {
+pub(crate) fn show_checked(answer: Checked) {
     match answer {
         Checked::Accepted(n, rules) => {
             say(b" accepted, atoms ");
@@ -52,7 +52,7 @@ pub fn show_checked(answer: Checked) {
     say(b"\n");
 }
 
-pub fn show_opened(answer: Opened) {
+pub(crate) fn show_opened(answer: Opened) {
     match answer {
         Opened::Closed(undecided) => {
             say(b" closed, undecided ");
@@ -64,7 +64,7 @@ pub fn show_opened(answer: Opened) {
     say(b":");
 }
 
-pub fn show_tested(answer: Tested) {
+pub(crate) fn show_tested(answer: Tested) {
     match answer {
         Tested::Stable => say(b" yes"),
         Tested::NotStable => say(b" no"),
@@ -81,7 +81,7 @@ fn size(margin: i64) -> u64 {
     1 + (-1 - margin) as u64
 }
 
-pub fn show_margin(answer: Margin) {
+pub(crate) fn show_margin(answer: Margin) {
     match answer {
         Margin::Is(margin) => {
             if margin < 0 {

@@ -10,7 +10,7 @@ use numbers::number::read_number;
 use table::PAIR;
 
 // One atom and its weight; and the place after them.
-pub fn write_pair(code: &mut [u32], j: usize, atom: usize, weight: usize) -> usize
+pub(crate) fn write_pair(code: &mut [u32], j: usize, atom: usize, weight: usize) -> usize
     requires { ⌜ PairAsks (now code) j atom weight ⌝ }
     ensures { λ r. ⌜ Copied (now (code .entry)) j (literal atom weight ∷ []) (now (code .exit)) r ⌝ }
 {
@@ -20,7 +20,13 @@ pub fn write_pair(code: &mut [u32], j: usize, atom: usize, weight: usize) -> usi
 }
 
 // So many atoms that stand at a place of the sheet, each with weight 1; and the place after them.
-pub fn copy_atoms(s: &[u8], count: usize, first: usize, code: &mut [u32], from: usize) -> usize
+pub(crate) fn copy_atoms(
+    s: &[u8],
+    count: usize,
+    first: usize,
+    code: &mut [u32],
+    from: usize,
+) -> usize
     requires { ⌜ Asks (now code) from (ones (numbersFrom count (now s) first)) ⌝ }
     ensures { λ r. ⌜ Copied (now (code .entry)) from (ones (numbersFrom count (now (s .entry)) first)) (now (code .exit)) r ⌝ }
 {
@@ -38,7 +44,7 @@ pub fn copy_atoms(s: &[u8], count: usize, first: usize, code: &mut [u32], from: 
 }
 
 // So many atoms that stand at one place, each with its weight, which stand at another; and the place after them.
-pub fn copy_weighed(
+pub(crate) fn copy_weighed(
     s: &[u8],
     count: usize,
     atoms: usize,

@@ -107,7 +107,7 @@ fn first_pair(count: usize) -> usize
 }
 
 // So many rules from a place of a sheet of n atoms on, as a table.
-pub fn write_rules(s: &[u8], n: usize, count: usize, first: usize, code: &mut [u32])
+pub(crate) fn write_rules(s: &[u8], n: usize, count: usize, first: usize, code: &mut [u32])
     requires { ⌜ RulesAsk (now s) n count first (now code) ⌝ }
     ensures { λ _. ⌜ now (code .exit) ≡ withRules (now (code .entry)) 0 (firstPair count) (rulesFrom count (now (s .entry)) n first) ⌝ }
 {

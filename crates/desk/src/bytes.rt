@@ -12,7 +12,7 @@ fn is_between(low: u8, high: u8, b: u8) -> bool
 }
 
 // The first of n bytes that is not from low to high, or n: a check of the whole map, from which the place is handed out.
-pub fn first_fault(m: &[u8], n: usize, low: u8, high: u8) -> usize
+pub(crate) fn first_fault(m: &[u8], n: usize, low: u8, high: u8) -> usize
     requires { ⌜ n ≤ length (now m) ⌝ }
     ensures { λ r. ⌜ FirstFault (between low high) n (now (m .entry)) r ⌝ }
 {
@@ -34,7 +34,7 @@ pub fn first_fault(m: &[u8], n: usize, low: u8, high: u8) -> usize
 }
 
 // The first n bytes of a map, copied.
-pub fn copy(from: &[u8], n: usize, m: &mut [u8])
+pub(crate) fn copy(from: &[u8], n: usize, m: &mut [u8])
     requires { ⌜ Room n (now from) (now m) ⌝ }
     ensures { λ _. ⌜ Copied n (now (from .entry)) (now (m .entry)) (now (m .exit)) ⌝ }
 {
@@ -46,7 +46,7 @@ pub fn copy(from: &[u8], n: usize, m: &mut [u8])
 }
 
 // n bytes of 3.
-pub fn write_threes(n: usize, m: &mut [u8])
+pub(crate) fn write_threes(n: usize, m: &mut [u8])
     requires { ⌜ n ≤ length (now m) ⌝ }
     ensures { λ _. ⌜ now (m .exit) ≡ threes n (now (m .entry)) ⌝ }
 {

@@ -12,7 +12,7 @@ use weigh::step::is_clash;
 use weigh::step::put;
 
 // One atom of n, put in or out: false where it is on the other side.
-pub fn hold_atom(n: u32, atom: u32, inside: bool, m: &mut [u8]) -> bool
+pub(crate) fn hold_atom(n: u32, atom: u32, inside: bool, m: &mut [u8]) -> bool
     requires { ⌜ Proper n (now m) × Within n atom ⌝ }
     ensures { λ r. ⌜ Takes n (now (m .entry)) (signed inside atom ∷ []) (now (m .exit)) r ⌝ }
 {
@@ -20,7 +20,7 @@ pub fn hold_atom(n: u32, atom: u32, inside: bool, m: &mut [u8]) -> bool
 }
 
 // Every atom of a list.
-pub fn hold_list(s: &[u8], list: Part, n: u32, inside: bool, m: &mut [u8]) -> bool
+pub(crate) fn hold_list(s: &[u8], list: Part, n: u32, inside: bool, m: &mut [u8]) -> bool
     requires { ⌜ Listed n (numbersOf (now s) list) (now m) ⌝ }
     ensures { λ r. ⌜ Takes n (now (m .entry)) (signedAll inside (numbersOf (now (s .entry)) list)) (now (m .exit)) r ⌝ }
 {

@@ -7,7 +7,7 @@ ghost use Rattle.desk.specs.Gate.{isThrees, mapFault, modelFault};
 ghost use Rattle.desk.specs.Scan.{Scanned};
 
 // "All n bytes 3 means contradiction (only where n is at least 1)": of a map with no fault the first byte tells.
-pub fn is_threes(m: &[u8], n: usize) -> bool
+pub(crate) fn is_threes(m: &[u8], n: usize) -> bool
     requires { ⌜ n ≤ length (now m) ⌝ }
     ensures { λ r. ⌜ r ≡ isThrees n (now (m .entry)) ⌝ }
 {
@@ -15,7 +15,7 @@ pub fn is_threes(m: &[u8], n: usize) -> bool
 }
 
 // "If the first byte is 3, the first that is not 3; otherwise the first above 2", or n.
-pub fn map_fault(m: &[u8], n: usize) -> usize
+pub(crate) fn map_fault(m: &[u8], n: usize) -> usize
     requires { ⌜ n ≤ length (now m) ⌝ }
     ensures { λ r. ⌜ Scanned (mapFault n (now (m .entry))) n r ⌝ }
 {
@@ -26,7 +26,7 @@ pub fn map_fault(m: &[u8], n: usize) -> usize
 }
 
 // "The first byte that is not 1 or 2", or n.
-pub fn model_fault(m: &[u8], n: usize) -> usize
+pub(crate) fn model_fault(m: &[u8], n: usize) -> usize
     requires { ⌜ n ≤ length (now m) ⌝ }
     ensures { λ r. ⌜ Scanned (modelFault n (now (m .entry))) n r ⌝ }
 {

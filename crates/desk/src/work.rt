@@ -36,7 +36,14 @@ fn hold_lists(s: &[u8], sheet: Outline, n: u32, m: &mut [u8]) -> bool
 }
 
 // The smallest closed map above a map that holds the compute lists.
-pub fn settle(s: &[u8], sheet: Outline, code: &[u32], n: u32, count: u32, m: &mut [u8]) -> Closing
+pub(crate) fn settle(
+    s: &[u8],
+    sheet: Outline,
+    code: &[u32],
+    n: u32,
+    count: u32,
+    m: &mut [u8],
+) -> Closing
     requires { ⌜ Coded (now s) sheet (now code) n count × Proper n (now m) ⌝ }
     ensures { λ r. ⌜ Finishes (rulesAt (now (code .entry)) count) n (With n (now (m .entry)) (computed (sheetMeant (now (s .entry)) sheet))) (now (m .entry)) (now (m .exit)) r ⌝ }
 {
@@ -58,7 +65,7 @@ fn settle_on(s: &[u8], sheet: Outline, code: &mut [u32], m: &mut [u8]) -> Closin
 }
 
 // The same with a table of its own, a small one for a short sheet.
-pub fn settle_sheet(s: &[u8], sheet: Outline, m: &mut [u8]) -> Closing
+pub(crate) fn settle_sheet(s: &[u8], sheet: Outline, m: &mut [u8]) -> Closing
     requires { ⌜ checkOf (now s) ≡ Accepted sheet × Proper (sheet .atoms) (now m) ⌝ }
     ensures { λ r. ⌜ Settles (sheetMeant (now (s .entry)) sheet) (now (m .entry)) (now (m .exit)) r ⌝ }
 {
@@ -71,7 +78,7 @@ pub fn settle_sheet(s: &[u8], sheet: Outline, m: &mut [u8]) -> Closing
 }
 
 // Hand the end of the work over: the work map's bytes, or n bytes of 3.
-pub fn hand_over(closing: Closing, work: &[u8], n: usize, m: &mut [u8]) -> Opened
+pub(crate) fn hand_over(closing: Closing, work: &[u8], n: usize, m: &mut [u8]) -> Opened
     requires { ⌜ Room n (now work) (now m) ⌝ }
     ensures { λ r. ⌜ Hands n closing (now (work .entry)) (now (m .entry)) (now (m .exit)) r ⌝ }
 {

@@ -4,7 +4,7 @@ ghost use mathlib.Core.Path.{_≡_};
 ghost use Rattle.forcing.specs.Pass.{placed};
 
 // The rule that is visited as the i-th of so many.
-pub fn place(count: u32, i: u32, down: bool) -> u32
+pub(crate) fn place(count: u32, i: u32, down: bool) -> u32
     requires { ⌜ i < count ⌝ }
     ensures { λ r. ⌜ r ≡ placed down count i ⌝ }
 {

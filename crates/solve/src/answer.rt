@@ -24,7 +24,7 @@ fn atoms(sheet: &[u8]) -> usize
 }
 
 // The line of the sheet's first model, or of why there is none.
-pub fn answer(sheet: &[u8]) -> Line
+pub(crate) fn answer(sheet: &[u8]) -> Line
     ensures { λ r. ⌜ Answers (now (sheet .entry)) (r .bytes) (r .len) ⌝ }
 {
     let mut map = [0u8; Atom::LAST];

@@ -6,7 +6,7 @@ ghost use Rattle.text.specs.Line.{digit, digits, spaced, spacedAll, isIn
 ghost use Rattle.text.specs.Put.{Room, RoomForAtoms, Puts};
 
 // Each function below puts its bytes after the first `len` of `out`, and answers the place after them.
-pub fn put_byte(out: &mut [u8], len: usize, b: u8) -> usize
+pub(crate) fn put_byte(out: &mut [u8], len: usize, b: u8) -> usize
     requires { ⌜ Room (now out) len (b ∷ []) ⌝ }
     ensures { λ r. ⌜ Puts (now (out .entry)) len (b ∷ []) (now (out .exit)) r ⌝ }
 {
@@ -14,7 +14,7 @@ pub fn put_byte(out: &mut [u8], len: usize, b: u8) -> usize
     len + 1
 }
 
-pub fn put_word(out: &mut [u8], len: usize, word: &[u8]) -> usize
+pub(crate) fn put_word(out: &mut [u8], len: usize, word: &[u8]) -> usize
     requires { ⌜ Room (now out) len (now word) ⌝ }
     ensures { λ r. ⌜ Puts (now (out .entry)) len (now (word .entry)) (now (out .exit)) r ⌝ }
 {
@@ -33,7 +33,7 @@ fn last_digit(x: usize) -> u8
     48 + (x % 10) as u8
 }
 
-pub fn put_number(out: &mut [u8], len: usize, x: usize) -> usize
+pub(crate) fn put_number(out: &mut [u8], len: usize, x: usize) -> usize
     requires { ⌜ Room (now out) len (digits x) ⌝ }
     ensures { λ r. ⌜ Puts (now (out .entry)) len (digits x) (now (out .exit)) r ⌝ }
 {
@@ -44,7 +44,7 @@ pub fn put_number(out: &mut [u8], len: usize, x: usize) -> usize
     put_byte(out, next, last_digit(x))
 }
 
-pub fn put_spaced(out: &mut [u8], len: usize, x: usize) -> usize
+pub(crate) fn put_spaced(out: &mut [u8], len: usize, x: usize) -> usize
     requires { ⌜ Room (now out) len (spaced x) ⌝ }
     ensures { λ r. ⌜ Puts (now (out .entry)) len (spaced x) (now (out .exit)) r ⌝ }
 {
@@ -71,7 +71,7 @@ fn put_atom(out: &mut [u8], len: usize, map: &[u8], i: usize) -> usize
 }
 
 // The in-atoms among 1 to n.
-pub fn put_atoms(out: &mut [u8], len: usize, map: &[u8], n: usize) -> usize
+pub(crate) fn put_atoms(out: &mut [u8], len: usize, map: &[u8], n: usize) -> usize
     requires { ⌜ RoomForAtoms (now out) len n ⌝ }
     ensures { λ r. ⌜ Puts (now (out .entry)) len (spacedAll (inAtoms n (now (map .entry)))) (now (out .exit)) r ⌝ }
 {
