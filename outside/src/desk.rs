@@ -1,7 +1,7 @@
 //! The seven calls as a C caller sees them, and buffers that notice a write
 //! beside them.
 
-use crate::plain;
+use crate::{for_c, plain};
 use std::slice;
 
 /// A desk: the archive's functions, or others with the same interface. Every
@@ -45,13 +45,13 @@ impl Desk {
     /// The plain solver behind the archive's interface.
     pub const PLAIN: Desk = Desk {
         name: "plain",
-        check: plain_check,
-        open: plain_open,
-        pin: plain_pin,
-        solve: plain_solve,
-        test: plain_test,
-        margin: plain_margin,
-        rule: plain_rule,
+        check: for_c!(check plain::desk_check),
+        open: for_c!(open plain::desk_open),
+        pin: for_c!(pin plain::desk_pin),
+        solve: for_c!(solve plain::desk_solve),
+        test: for_c!(test plain::desk_test),
+        margin: for_c!(margin plain::desk_margin),
+        rule: for_c!(rule plain::desk_rule),
     };
 
     /// The static archive.
@@ -197,32 +197,38 @@ pub unsafe fn lent_mut<'a>(first: *mut u8, length: usize) -> &'a mut [u8] {
     unsafe { slice::from_raw_parts_mut(first, length) }
 }
 
-unsafe extern "C" fn plain_check(s: *const u8, s_len: usize) -> u64 {
-    plain::desk_check(unsafe { lent(s, s_len) })
-}
-
-unsafe extern "C" fn plain_open(s: *const u8, s_len: usize, map: *mut u8, map_len: usize) -> u64 {
-    unsafe { plain::desk_open(lent(s, s_len), lent_mut(map, map_len)) }
-}
-
-unsafe extern "C" fn plain_pin(s: *const u8, s_len: usize, map: *mut u8, map_len: usize, atom: u64, side: u64) -> u64 {
-    unsafe { plain::desk_pin(lent(s, s_len), lent_mut(map, map_len), atom, side) }
-}
-
-unsafe extern "C" fn plain_solve(s: *const u8, s_len: usize, map: *mut u8, map_len: usize) -> u64 {
-    unsafe { plain::desk_solve(lent(s, s_len), lent_mut(map, map_len)) }
-}
-
-unsafe extern "C" fn plain_test(s: *const u8, s_len: usize, map: *const u8, map_len: usize) -> u64 {
-    unsafe { plain::desk_test(lent(s, s_len), lent(map, map_len)) }
-}
-
-unsafe extern "C" fn plain_margin(s: *const u8, s_len: usize, map: *const u8, map_len: usize, rule: u64) -> u64 {
-    unsafe { plain::desk_margin(lent(s, s_len), lent(map, map_len), rule) }
-}
-
-unsafe extern "C" fn plain_rule(s: *const u8, s_len: usize, rule: u64, part: u64, index: u64) -> u64 {
-    plain::desk_rule(unsafe { lent(s, s_len) }, rule, part, index)
+/// A call on slices as a C caller sees it: `for_c!(open f)` hands `f` the
+/// slices of the pointers and lengths that it is given.
+#[macro_export]
+macro_rules! for_c {
+    (check $call:path) => {
+        $crate::for_c!([] $call [])
+    };
+    (open $call:path) => {
+        $crate::for_c!([map: *mut u8 as lent_mut] $call [])
+    };
+    (solve $call:path) => {
+        $crate::for_c!(open $call)
+    };
+    (pin $call:path) => {
+        $crate::for_c!([map: *mut u8 as lent_mut] $call [atom side])
+    };
+    (test $call:path) => {
+        $crate::for_c!([map: *const u8 as lent] $call [])
+    };
+    (margin $call:path) => {
+        $crate::for_c!([map: *const u8 as lent] $call [rule])
+    };
+    (rule $call:path) => {
+        $crate::for_c!([] $call [rule part index])
+    };
+    ([$($map:ident: $pointer:ty as $lent:ident)?] $call:path [$($number:ident)*]) => {{
+        unsafe extern "C" fn call(s: *const u8, s_len: usize, $($map: $pointer, map_len: usize,)? $($number: u64),*) -> u64 {
+            // SAFETY: the caller lends so many bytes at each pointer.
+            unsafe { $call($crate::desk::lent(s, s_len), $($crate::desk::$lent($map, map_len),)? $($number),*) }
+        }
+        call
+    }};
 }
 
 /// The functions of `libarchive.a`.

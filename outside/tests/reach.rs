@@ -2,7 +2,8 @@
 
 use outside::agreement::{SUITES, hold_seeds};
 use outside::answer::Answer;
-use outside::desk::{Desk, lent, lent_mut};
+use outside::desk::Desk;
+use outside::for_c;
 use outside::plain;
 use std::collections::BTreeMap;
 use std::sync::Mutex;
@@ -16,34 +17,43 @@ fn noted(call: &'static str, code: u64) -> u64 {
     code
 }
 
-const NOTING: Desk = Desk { name: "noting", check, open, pin, solve, test, margin, rule };
+const NOTING: Desk = Desk {
+    name: "noting",
+    check: for_c!(check check),
+    open: for_c!(open open),
+    pin: for_c!(pin pin),
+    solve: for_c!(solve solve),
+    test: for_c!(test test),
+    margin: for_c!(margin margin),
+    rule: for_c!(rule rule),
+};
 
-unsafe extern "C" fn check(s: *const u8, s_len: usize) -> u64 {
-    noted("check", plain::desk_check(unsafe { lent(s, s_len) }))
+fn check(s: &[u8]) -> u64 {
+    noted("check", plain::desk_check(s))
 }
 
-unsafe extern "C" fn open(s: *const u8, s_len: usize, map: *mut u8, map_len: usize) -> u64 {
-    noted("open", unsafe { plain::desk_open(lent(s, s_len), lent_mut(map, map_len)) })
+fn open(s: &[u8], map: &mut [u8]) -> u64 {
+    noted("open", plain::desk_open(s, map))
 }
 
-unsafe extern "C" fn pin(s: *const u8, s_len: usize, map: *mut u8, map_len: usize, atom: u64, side: u64) -> u64 {
-    noted("pin", unsafe { plain::desk_pin(lent(s, s_len), lent_mut(map, map_len), atom, side) })
+fn pin(s: &[u8], map: &mut [u8], atom: u64, side: u64) -> u64 {
+    noted("pin", plain::desk_pin(s, map, atom, side))
 }
 
-unsafe extern "C" fn solve(s: *const u8, s_len: usize, map: *mut u8, map_len: usize) -> u64 {
-    noted("solve", unsafe { plain::desk_solve(lent(s, s_len), lent_mut(map, map_len)) })
+fn solve(s: &[u8], map: &mut [u8]) -> u64 {
+    noted("solve", plain::desk_solve(s, map))
 }
 
-unsafe extern "C" fn test(s: *const u8, s_len: usize, map: *const u8, map_len: usize) -> u64 {
-    noted("test", unsafe { plain::desk_test(lent(s, s_len), lent(map, map_len)) })
+fn test(s: &[u8], map: &[u8]) -> u64 {
+    noted("test", plain::desk_test(s, map))
 }
 
-unsafe extern "C" fn margin(s: *const u8, s_len: usize, map: *const u8, map_len: usize, rule: u64) -> u64 {
-    noted("margin", unsafe { plain::desk_margin(lent(s, s_len), lent(map, map_len), rule) })
+fn margin(s: &[u8], map: &[u8], rule: u64) -> u64 {
+    noted("margin", plain::desk_margin(s, map, rule))
 }
 
-unsafe extern "C" fn rule(s: *const u8, s_len: usize, rule: u64, part: u64, index: u64) -> u64 {
-    noted("rule", plain::desk_rule(unsafe { lent(s, s_len) }, rule, part, index))
+fn rule(s: &[u8], rule: u64, part: u64, index: u64) -> u64 {
+    noted("rule", plain::desk_rule(s, rule, part, index))
 }
 
 #[test]

@@ -5,6 +5,7 @@ use outside::agreement::{SUITES, Suite, hold_seeds};
 use outside::answer::{Answer, Refusal};
 use outside::cases;
 use outside::desk::{Desk, lent, lent_mut};
+use outside::for_c;
 use outside::plain;
 use outside::plain::meaning::{meets, sure};
 use outside::plain::reader::read_sheet;
@@ -26,75 +27,85 @@ fn wrong_desks() -> Vec<Wrong> {
     };
     vec![
         wrong("refuses all sheets", &["well formed", "large", "limits", "any bytes"], &|desk| {
-            desk.check = refuse_all;
+            desk.check = for_c!(check refuse_all);
         }),
-        wrong("accepts damaged lists", &["damaged", "any bytes"], &|desk| desk.check = accept_unordered),
-        wrong("looks at the length last", &["limits"], &|desk| desk.check = check_length_last),
+        wrong("accepts damaged lists", &["damaged", "any bytes"], &|desk| desk.check = for_c!(check accept_unordered)),
+        wrong("looks at the length last", &["limits"], &|desk| desk.check = for_c!(check check_length_last)),
         wrong("places 1 at the last byte", &["short strings", "damaged", "any bytes"], &|desk| {
-            desk.check = check_misplaced;
+            desk.check = for_c!(check check_misplaced);
         }),
         wrong("reads past the end", &["damaged", "any bytes", "short strings"], &|desk| desk.check = check_beyond),
-        wrong("writes on a refusal", &["short strings", "damaged", "limits"], &|desk| desk.open = open_and_clear),
-        wrong("always none", &["well formed", "large", "limits", "subsets"], &|desk| desk.solve = solve_none),
-        wrong("last model first", &["well formed", "subsets"], &|desk| desk.solve = solve_last),
+        wrong("writes on a refusal", &["short strings", "damaged", "limits"], &|desk| {
+            desk.open = for_c!(open open_and_clear)
+        }),
+        wrong("always none", &["well formed", "large", "limits", "subsets"], &|desk| {
+            desk.solve = for_c!(solve solve_none)
+        }),
+        wrong("last model first", &["well formed", "subsets"], &|desk| desk.solve = for_c!(solve solve_last)),
         wrong("open forces nothing", &["well formed", "limits", "closed maps", "pin walks"], &|desk| {
-            desk.open = open_unforced;
+            desk.open = for_c!(open open_unforced);
         }),
         wrong("open looks at each rule once", &["well formed", "closed maps", "shuffled"], &|desk| {
-            desk.open = open_single_pass;
+            desk.open = for_c!(open open_single_pass);
         }),
         wrong("open guesses at once", &["well formed", "subsets", "closed maps"], &|desk| {
-            desk.open = open_guessing;
-            desk.pin = pin_nothing;
+            desk.open = for_c!(open open_guessing);
+            desk.pin = for_c!(pin pin_nothing);
         }),
-        wrong("open reads the old map", &["well formed", "pin walks", "large"], &|desk| desk.open = open_if_zero),
+        wrong("open reads the old map", &["well formed", "pin walks", "large"], &|desk| {
+            desk.open = for_c!(open open_if_zero)
+        }),
         wrong("open forgets the compute lists", &["well formed", "closed maps", "pin walks"], &|desk| {
-            desk.open = open_without_compute;
+            desk.open = for_c!(open open_without_compute);
         }),
         wrong("a choice forces its heads", &["well formed", "subsets", "closed maps"], &|desk| {
-            desk.open = open_choices_as_basic;
+            desk.open = for_c!(open open_choices_as_basic);
         }),
         wrong("repeated rules count once", &["well formed", "closed maps", "pin walks"], &|desk| {
-            desk.pin = pin_without_repeats;
+            desk.pin = for_c!(pin pin_without_repeats);
         }),
         wrong("the first of two reasons forces", &["well formed", "closed maps", "pin walks"], &|desk| {
-            desk.pin = pin_first_reason;
+            desk.pin = for_c!(pin pin_first_reason);
         }),
         wrong("pin forces nothing", &["well formed", "closed maps", "pin walks"], &|desk| {
-            desk.pin = pin_unforced;
+            desk.pin = for_c!(pin pin_unforced);
         }),
         wrong("pin does nothing", &["well formed", "closed maps", "pin walks", "limits"], &|desk| {
-            desk.pin = pin_nothing;
+            desk.pin = for_c!(pin pin_nothing);
         }),
         wrong("pin leaves on the last pin's side", &["shuffled", "pin walks", "closed maps"], &|desk| {
-            desk.pin = pin_overwriting;
+            desk.pin = for_c!(pin pin_overwriting);
         }),
-        wrong("pin cuts numbers to 32 bits", &["limits", "well formed"], &|desk| desk.pin = pin_cut),
+        wrong("pin cuts numbers to 32 bits", &["limits", "well formed"], &|desk| desk.pin = for_c!(pin pin_cut)),
         wrong("counts the decided atoms", &["well formed", "closed maps", "pin walks", "large"], &|desk| {
-            desk.open = open_counting_decided;
+            desk.open = for_c!(open open_counting_decided);
         }),
         wrong("half a map with a contradiction", &["well formed", "closed maps", "pin walks"], &|desk| {
-            desk.pin = pin_half_written;
+            desk.pin = for_c!(pin pin_half_written);
         }),
         wrong("contradiction past the atoms", &["well formed", "pin walks", "limits"], &|desk| {
-            desk.pin = pin_filling_all;
+            desk.pin = for_c!(pin pin_filling_all);
         }),
         wrong("writes beside the map", &["well formed", "large", "limits", "subsets"], &|desk| {
             desk.solve = solve_one_too_many;
         }),
         wrong("test takes every set closed under the rules", &["subsets", "well formed"], &|desk| {
-            desk.test = test_satisfying;
+            desk.test = for_c!(test test_satisfying);
         }),
         wrong("test forgets the compute lists", &["subsets", "well formed"], &|desk| {
-            desk.test = test_without_compute;
+            desk.test = for_c!(test test_without_compute);
         }),
-        wrong("test takes 3 for an answer", &["well formed", "limits"], &|desk| desk.test = test_no_on_three),
+        wrong("test takes 3 for an answer", &["well formed", "limits"], &|desk| {
+            desk.test = for_c!(test test_no_on_three)
+        }),
         wrong("margins end at zero", &["well formed", "limits", "closed maps", "pin walks"], &|desk| {
-            desk.margin = margin_from_zero;
+            desk.margin = for_c!(margin margin_from_zero);
         }),
-        wrong("margin before its order", &["well formed", "limits"], &|desk| desk.margin = margin_twelve_first),
-        wrong("parts counted from 1", &["well formed", "limits"], &|desk| desk.rule = rule_from_one),
-        wrong("parts above 9 refused", &["well formed", "limits"], &|desk| desk.rule = rule_refusing),
+        wrong("margin before its order", &["well formed", "limits"], &|desk| {
+            desk.margin = for_c!(margin margin_twelve_first)
+        }),
+        wrong("parts counted from 1", &["well formed", "limits"], &|desk| desk.rule = for_c!(rule rule_from_one)),
+        wrong("parts above 9 refused", &["well formed", "limits"], &|desk| desk.rule = for_c!(rule rule_refusing)),
     ]
 }
 
@@ -142,12 +153,11 @@ fn the_papers_cases_catch_the_wrong_versions_it_names() {
     }
 }
 
-unsafe extern "C" fn refuse_all(_: *const u8, _: usize) -> u64 {
+fn refuse_all(_: &[u8]) -> u64 {
     refused(1, 0)
 }
 
-unsafe extern "C" fn accept_unordered(s: *const u8, s_len: usize) -> u64 {
-    let s = unsafe { lent(s, s_len) };
+fn accept_unordered(s: &[u8]) -> u64 {
     let code = plain::desk_check(s);
     if matches!(Answer::of_code(code), Some(Answer::Refused(Refusal { number: 7, .. }))) {
         return Answer::Accepted { atoms: s[1].into(), rules: s[2].into() }.code();
@@ -155,17 +165,16 @@ unsafe extern "C" fn accept_unordered(s: *const u8, s_len: usize) -> u64 {
     code
 }
 
-unsafe extern "C" fn check_length_last(s: *const u8, s_len: usize) -> u64 {
-    let s = unsafe { lent(s, s_len) };
+fn check_length_last(s: &[u8]) -> u64 {
     match plain::desk_check(&s[..s.len().min(65_536)]) {
         code if s.len() <= 65_536 || code >> 40 != 32 => code,
         _ => refused(9, 65_536),
     }
 }
 
-unsafe extern "C" fn check_misplaced(s: *const u8, s_len: usize) -> u64 {
-    let code = plain::desk_check(unsafe { lent(s, s_len) });
-    if code >> 40 == 1 && s_len > 0 { code - 1 } else { code }
+fn check_misplaced(s: &[u8]) -> u64 {
+    let code = plain::desk_check(s);
+    if code >> 40 == 1 && !s.is_empty() { code - 1 } else { code }
 }
 
 /// Takes the eight bytes after the sheet for a part of it.
@@ -177,8 +186,7 @@ unsafe extern "C" fn check_beyond(s: *const u8, s_len: usize) -> u64 {
     }
 }
 
-unsafe extern "C" fn open_and_clear(s: *const u8, s_len: usize, map: *mut u8, map_len: usize) -> u64 {
-    let (s, map) = unsafe { (lent(s, s_len), lent_mut(map, map_len)) };
+fn open_and_clear(s: &[u8], map: &mut [u8]) -> u64 {
     let code = plain::desk_open(s, map);
     if code >> 40 < 32 {
         map.fill(0);
@@ -186,8 +194,7 @@ unsafe extern "C" fn open_and_clear(s: *const u8, s_len: usize, map: *mut u8, ma
     code
 }
 
-unsafe extern "C" fn solve_none(s: *const u8, s_len: usize, map: *mut u8, map_len: usize) -> u64 {
-    let (s, map) = unsafe { (lent(s, s_len), lent_mut(map, map_len)) };
+fn solve_none(s: &[u8], map: &mut [u8]) -> u64 {
     let code = plain::desk_solve(s, map);
     if code != Answer::Model.code() {
         return code;
@@ -197,8 +204,7 @@ unsafe extern "C" fn solve_none(s: *const u8, s_len: usize, map: *mut u8, map_le
 }
 
 /// Finds a model by guessing every atom out first.
-unsafe extern "C" fn solve_last(s: *const u8, s_len: usize, map: *mut u8, map_len: usize) -> u64 {
-    let (s, map) = unsafe { (lent(s, s_len), lent_mut(map, map_len)) };
+fn solve_last(s: &[u8], map: &mut [u8]) -> u64 {
     let code = plain::desk_solve(s, map);
     let Ok(sheet) = read_sheet(s) else { return code };
     if code != Answer::Model.code() {
@@ -219,8 +225,7 @@ unsafe extern "C" fn solve_last(s: *const u8, s_len: usize, map: *mut u8, map_le
     code
 }
 
-unsafe extern "C" fn open_unforced(s: *const u8, s_len: usize, map: *mut u8, map_len: usize) -> u64 {
-    let (s, map) = unsafe { (lent(s, s_len), lent_mut(map, map_len)) };
+fn open_unforced(s: &[u8], map: &mut [u8]) -> u64 {
     let code = plain::desk_open(s, map);
     let Ok(sheet) = read_sheet(s) else { return code };
     if code >> 40 != 33 {
@@ -237,9 +242,8 @@ unsafe extern "C" fn open_unforced(s: *const u8, s_len: usize, map: *mut u8, map
 }
 
 /// Forces heads in one pass over the rules, and nothing else.
-unsafe extern "C" fn open_single_pass(s: *const u8, s_len: usize, map: *mut u8, map_len: usize) -> u64 {
-    let (s, map) = unsafe { (lent(s, s_len), lent_mut(map, map_len)) };
-    let code = unsafe { open_unforced(s.as_ptr(), s_len, map.as_mut_ptr(), map_len) };
+fn open_single_pass(s: &[u8], map: &mut [u8]) -> u64 {
+    let code = open_unforced(s, map);
     let Ok(sheet) = read_sheet(s) else { return code };
     if code >> 40 != 33 {
         return code;
@@ -252,8 +256,7 @@ unsafe extern "C" fn open_single_pass(s: *const u8, s_len: usize, map: *mut u8, 
     closed(&map[..sheet.atoms])
 }
 
-unsafe extern "C" fn open_guessing(s: *const u8, s_len: usize, map: *mut u8, map_len: usize) -> u64 {
-    let (s, map) = unsafe { (lent(s, s_len), lent_mut(map, map_len)) };
+fn open_guessing(s: &[u8], map: &mut [u8]) -> u64 {
     let code = plain::desk_open(s, map);
     let Ok(sheet) = read_sheet(s) else { return code };
     match first_model_within(&sheet, 100) {
@@ -265,24 +268,21 @@ unsafe extern "C" fn open_guessing(s: *const u8, s_len: usize, map: *mut u8, map
     }
 }
 
-unsafe extern "C" fn open_if_zero(s: *const u8, s_len: usize, map: *mut u8, map_len: usize) -> u64 {
-    let (s, map) = unsafe { (lent(s, s_len), lent_mut(map, map_len)) };
+fn open_if_zero(s: &[u8], map: &mut [u8]) -> u64 {
     match map.iter().position(|&byte| byte != 0) {
         Some(place) if plain::desk_check(s) >> 40 == 32 => refused(12, place),
         _ => plain::desk_open(s, map),
     }
 }
 
-unsafe extern "C" fn open_without_compute(s: *const u8, s_len: usize, map: *mut u8, map_len: usize) -> u64 {
-    let (s, map) = unsafe { (lent(s, s_len), lent_mut(map, map_len)) };
+fn open_without_compute(s: &[u8], map: &mut [u8]) -> u64 {
     match read_sheet(s) {
         Ok(sheet) => plain::desk_open(&without_compute(sheet), map),
         Err(_) => plain::desk_open(s, map),
     }
 }
 
-unsafe extern "C" fn open_choices_as_basic(s: *const u8, s_len: usize, map: *mut u8, map_len: usize) -> u64 {
-    let (s, map) = unsafe { (lent(s, s_len), lent_mut(map, map_len)) };
+fn open_choices_as_basic(s: &[u8], map: &mut [u8]) -> u64 {
     let Ok(sheet) = read_sheet(s) else { return plain::desk_open(s, map) };
     let as_basic = |rule: &Rule| -> Vec<Rule> {
         let one = |&head: &usize| Rule { kind: Kind::Basic, heads: vec![head], ..rule.clone() };
@@ -292,15 +292,7 @@ unsafe extern "C" fn open_choices_as_basic(s: *const u8, s_len: usize, map: *mut
     plain::desk_open(&Sheet { rules, ..sheet }.bytes(), map)
 }
 
-unsafe extern "C" fn pin_without_repeats(
-    s: *const u8,
-    s_len: usize,
-    map: *mut u8,
-    map_len: usize,
-    atom: u64,
-    side: u64,
-) -> u64 {
-    let (s, map) = unsafe { (lent(s, s_len), lent_mut(map, map_len)) };
+fn pin_without_repeats(s: &[u8], map: &mut [u8], atom: u64, side: u64) -> u64 {
     let Ok(mut sheet) = read_sheet(s) else { return plain::desk_pin(s, map, atom, side) };
     let mut once: Vec<Rule> = Vec::new();
     for rule in sheet.rules {
@@ -313,15 +305,7 @@ unsafe extern "C" fn pin_without_repeats(
 }
 
 /// Pins an atom in as if only the first rule with that head could give it.
-unsafe extern "C" fn pin_first_reason(
-    s: *const u8,
-    s_len: usize,
-    map: *mut u8,
-    map_len: usize,
-    atom: u64,
-    side: u64,
-) -> u64 {
-    let (s, map) = unsafe { (lent(s, s_len), lent_mut(map, map_len)) };
+fn pin_first_reason(s: &[u8], map: &mut [u8], atom: u64, side: u64) -> u64 {
     let Ok(mut sheet) = read_sheet(s) else { return plain::desk_pin(s, map, atom, side) };
     let mut seen = false;
     sheet.rules.retain(|rule| {
@@ -332,15 +316,7 @@ unsafe extern "C" fn pin_first_reason(
     plain::desk_pin(&sheet.bytes(), map, atom, side)
 }
 
-unsafe extern "C" fn pin_unforced(
-    s: *const u8,
-    s_len: usize,
-    map: *mut u8,
-    map_len: usize,
-    atom: u64,
-    side: u64,
-) -> u64 {
-    let (s, map) = unsafe { (lent(s, s_len), lent_mut(map, map_len)) };
+fn pin_unforced(s: &[u8], map: &mut [u8], atom: u64, side: u64) -> u64 {
     let old = map.to_vec();
     let code = plain::desk_pin(s, map, atom, side);
     if code >> 40 != 33 {
@@ -351,15 +327,7 @@ unsafe extern "C" fn pin_unforced(
     closed(&map[..atoms_of(s)])
 }
 
-unsafe extern "C" fn pin_nothing(
-    s: *const u8,
-    s_len: usize,
-    map: *mut u8,
-    map_len: usize,
-    atom: u64,
-    side: u64,
-) -> u64 {
-    let (s, map) = unsafe { (lent(s, s_len), lent_mut(map, map_len)) };
+fn pin_nothing(s: &[u8], map: &mut [u8], atom: u64, side: u64) -> u64 {
     let mut copy = map.to_vec();
     match plain::desk_pin(s, &mut copy, atom, side) {
         code if code >> 40 < 32 => code,
@@ -368,15 +336,7 @@ unsafe extern "C" fn pin_nothing(
 }
 
 /// Puts the atom on the new side whatever it was before.
-unsafe extern "C" fn pin_overwriting(
-    s: *const u8,
-    s_len: usize,
-    map: *mut u8,
-    map_len: usize,
-    atom: u64,
-    side: u64,
-) -> u64 {
-    let (s, map) = unsafe { (lent(s, s_len), lent_mut(map, map_len)) };
+fn pin_overwriting(s: &[u8], map: &mut [u8], atom: u64, side: u64) -> u64 {
     let mut copy = map.to_vec();
     let code = plain::desk_pin(s, &mut copy, atom, side);
     if code >> 40 >= 32 && map[0] != 3 {
@@ -385,28 +345,18 @@ unsafe extern "C" fn pin_overwriting(
     if code >> 40 < 32 { code } else { plain::desk_pin(s, map, atom, side) }
 }
 
-unsafe extern "C" fn pin_cut(s: *const u8, s_len: usize, map: *mut u8, map_len: usize, atom: u64, side: u64) -> u64 {
-    let (s, map) = unsafe { (lent(s, s_len), lent_mut(map, map_len)) };
+fn pin_cut(s: &[u8], map: &mut [u8], atom: u64, side: u64) -> u64 {
     plain::desk_pin(s, map, (atom as u32).into(), (side as u32).into())
 }
 
-unsafe extern "C" fn open_counting_decided(s: *const u8, s_len: usize, map: *mut u8, map_len: usize) -> u64 {
-    let (s, map) = unsafe { (lent(s, s_len), lent_mut(map, map_len)) };
+fn open_counting_decided(s: &[u8], map: &mut [u8]) -> u64 {
     match Answer::of_code(plain::desk_open(s, map)) {
         Some(Answer::Closed { undecided }) => Answer::Closed { undecided: atoms_of(s) - undecided }.code(),
         other => other.expect("plain answers").code(),
     }
 }
 
-unsafe extern "C" fn pin_half_written(
-    s: *const u8,
-    s_len: usize,
-    map: *mut u8,
-    map_len: usize,
-    atom: u64,
-    side: u64,
-) -> u64 {
-    let (s, map) = unsafe { (lent(s, s_len), lent_mut(map, map_len)) };
+fn pin_half_written(s: &[u8], map: &mut [u8], atom: u64, side: u64) -> u64 {
     let old = map.to_vec();
     let code = plain::desk_pin(s, map, atom, side);
     if code == Answer::Contradiction.code() && old[0] != 3 {
@@ -416,15 +366,7 @@ unsafe extern "C" fn pin_half_written(
     code
 }
 
-unsafe extern "C" fn pin_filling_all(
-    s: *const u8,
-    s_len: usize,
-    map: *mut u8,
-    map_len: usize,
-    atom: u64,
-    side: u64,
-) -> u64 {
-    let (s, map) = unsafe { (lent(s, s_len), lent_mut(map, map_len)) };
+fn pin_filling_all(s: &[u8], map: &mut [u8], atom: u64, side: u64) -> u64 {
     let code = plain::desk_pin(s, map, atom, side);
     if code == Answer::Contradiction.code() {
         map.fill(3);
@@ -442,8 +384,7 @@ unsafe extern "C" fn solve_one_too_many(s: *const u8, s_len: usize, map: *mut u8
     code
 }
 
-unsafe extern "C" fn test_satisfying(s: *const u8, s_len: usize, map: *const u8, map_len: usize) -> u64 {
-    let (s, map) = unsafe { (lent(s, s_len), lent(map, map_len)) };
+fn test_satisfying(s: &[u8], map: &[u8]) -> u64 {
     let code = plain::desk_test(s, map);
     match read_sheet(s) {
         Ok(sheet) if code == Answer::No.code() && satisfies(&sheet, map) => Answer::Yes.code(),
@@ -451,24 +392,21 @@ unsafe extern "C" fn test_satisfying(s: *const u8, s_len: usize, map: *const u8,
     }
 }
 
-unsafe extern "C" fn test_without_compute(s: *const u8, s_len: usize, map: *const u8, map_len: usize) -> u64 {
-    let (s, map) = unsafe { (lent(s, s_len), lent(map, map_len)) };
+fn test_without_compute(s: &[u8], map: &[u8]) -> u64 {
     match read_sheet(s) {
         Ok(sheet) => plain::desk_test(&without_compute(sheet), map),
         Err(_) => plain::desk_test(s, map),
     }
 }
 
-unsafe extern "C" fn test_no_on_three(s: *const u8, s_len: usize, map: *const u8, map_len: usize) -> u64 {
-    let (s, map) = unsafe { (lent(s, s_len), lent(map, map_len)) };
+fn test_no_on_three(s: &[u8], map: &[u8]) -> u64 {
     match plain::desk_test(s, map) {
         code if code >> 40 == 12 && map[0] == 3 => Answer::No.code(),
         code => code,
     }
 }
 
-unsafe extern "C" fn margin_from_zero(s: *const u8, s_len: usize, map: *const u8, map_len: usize, rule: u64) -> u64 {
-    let (s, map) = unsafe { (lent(s, s_len), lent(map, map_len)) };
+fn margin_from_zero(s: &[u8], map: &[u8], rule: u64) -> u64 {
     match Answer::of_code(plain::desk_margin(s, map, rule)) {
         Some(Answer::Margin(margin)) => Answer::Margin(margin.max(0)).code(),
         other => other.expect("plain answers").code(),
@@ -476,8 +414,7 @@ unsafe extern "C" fn margin_from_zero(s: *const u8, s_len: usize, map: *const u8
 }
 
 /// Looks at the map's bytes before the rule number.
-unsafe extern "C" fn margin_twelve_first(s: *const u8, s_len: usize, map: *const u8, map_len: usize, rule: u64) -> u64 {
-    let (s, map) = unsafe { (lent(s, s_len), lent(map, map_len)) };
+fn margin_twelve_first(s: &[u8], map: &[u8], rule: u64) -> u64 {
     let code = plain::desk_margin(s, map, rule);
     match plain::desk_margin(s, map, 1) {
         other if code >> 40 == 13 && other >> 40 == 12 => other,
@@ -485,12 +422,12 @@ unsafe extern "C" fn margin_twelve_first(s: *const u8, s_len: usize, map: *const
     }
 }
 
-unsafe extern "C" fn rule_from_one(s: *const u8, s_len: usize, rule: u64, part: u64, index: u64) -> u64 {
-    plain::desk_rule(unsafe { lent(s, s_len) }, rule, part, index.wrapping_sub(1))
+fn rule_from_one(s: &[u8], rule: u64, part: u64, index: u64) -> u64 {
+    plain::desk_rule(s, rule, part, index.wrapping_sub(1))
 }
 
-unsafe extern "C" fn rule_refusing(s: *const u8, s_len: usize, rule: u64, part: u64, index: u64) -> u64 {
-    let code = plain::desk_rule(unsafe { lent(s, s_len) }, rule, part, index);
+fn rule_refusing(s: &[u8], rule: u64, part: u64, index: u64) -> u64 {
+    let code = plain::desk_rule(s, rule, part, index);
     if part > 9 && code >> 40 == 41 { refused(13, 0) } else { code }
 }
 
