@@ -62,7 +62,7 @@ module _ (n : ℕ) (m : List ℕ) (a : ℕ) (s : Bool) (p : Proper n m) (w : Wit
           λ X f.
               let g = subst (λ (l : List ℕ). side n l ⊑ X) (q .put .0) f in
               record {
-                above = ⊑-trans (written-above n m a w (p .room) s (q .put .1)) g;
+                above = ⊑-trans (written-above n m a w (p .room) (want s) (q .put .1)) g;
                 holds =
                     holding-cons X (signed s a) [] (g .keeps s a (written-same n m a w (p .room) (want s))) (holding-nil X);
               },
@@ -70,7 +70,7 @@ module _ (n : ℕ) (m : List ℕ) (a : ℕ) (s : Bool) (p : Proper n m) (w : Wit
               subst
               (λ (l : List ℕ). side n l ⊑ X)
               (sym (q .put .0))
-              (written-below n m a w (p .room) s X (u .above) (here X u)),
+              (written-below n m a w (p .room) (want s) X (u .above) (here X u)),
         );
       }
 

@@ -25,7 +25,8 @@ use Rattle.forcing.specs.Heads.{Settled, SettlesAll}
 use Rattle.forcing.specs.Support.{Counts, Backed, BacksAll}
 use Rattle.forcing.specs.Ground.{ListsFounded, Drops, Unless}
 use Rattle.forcing.specs.Close.{LowestAt, Summed, Forcing, BackedAll, FoundedAll, Closes, ClosesMap}
-use Rattle.weigh.proofs.Bytes.{side-at, proper-map, equal?}
+use Rattle.rules.proofs.Bytes.{side-at}
+use Rattle.weigh.proofs.Bytes.{proper-map, equal?}
 use Rattle.weigh.proofs.Steps.{kept-refl, kept-trans, forces-refl, forces-trans, step-same, quieter, step-joined}
 use Rattle.forcing.proofs.Founding.{unfounded-out}
 

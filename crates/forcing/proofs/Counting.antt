@@ -21,7 +21,8 @@ use Rattle.table.specs.Rows.{headsAt, positivesAt, needAt, ruleAt, rulesFrom, r
 use Rattle.table.proofs.Words.{Listed, counted-most, atoms-listed, has-done, has-next}
 use Rattle.table.proofs.Rows.{heads-apart, rules-done, rules-next}
 use Rattle.forcing.specs.Support.{Counts, Small, Adds, Counting, Heading, Stirs}
-use Rattle.weigh.proofs.Bytes.{side-put, side-other, equal?}
+use Rattle.rules.proofs.Bytes.{written-same, written-other}
+use Rattle.weigh.proofs.Bytes.{equal?}
 
 -- one more at one atom
 module _ (n : ℕ) (counts : List ℕ) (a : ℕ) (w : Within n a) (room : n ≤ length counts) where
@@ -30,14 +31,14 @@ module _ (n : ℕ) (counts : List ℕ) (a : ℕ) (w : Within n a) (room : n ≤ 
     where
       here : x ≡ a → side n (set counts (a - 1) (side n counts a + 1)) x ≡ side n counts x + counted (eqb x a) 1
       here e =
-          ap (side n (set counts (a - 1) (side n counts a + 1))) e ∙ side-put n counts a (side n counts a + 1) w room
+          ap (side n (set counts (a - 1) (side n counts a + 1))) e ∙ written-same n counts a w room (side n counts a + 1)
           ∙ (let f : side n counts x ≡ side n counts a = ap (side n counts) e in
           let g : counted (eqb x a) 1 ≡ 1 = ap (λ (b : Bool). counted b 1) (eq-eqb x a e) in
           omega arith)
 
       there : (x ≡ a → ⊥) → side n (set counts (a - 1) (side n counts a + 1)) x ≡ side n counts x + counted (eqb x a) 1
       there e =
-          side-other n counts a (side n counts a + 1) w x e
+          written-other n counts a w room (side n counts a + 1) x e
           ∙ (let g : counted (eqb x a) 1 ≡ 0 = ap (λ (b : Bool). counted b 1) (ne-eqb x a e) in omega arith)
 
   -- an atom that is in has one more, and any other has no more

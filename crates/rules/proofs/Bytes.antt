@@ -67,30 +67,25 @@ module _ (n : ℕ) (m : List ℕ) (a : ℕ) (w : Within n a) (long : n ≤ lengt
       (λ u. side-beyond n (set m (a - 1) v) b u ∙ sym (side-beyond n m b u))
       (within? n b)
 
-  module _ (s : Bool) where
-    abbrev written : Map
-    written = side n (set m (a - 1) (want s))
-
-    pub written-above : side n m a ≡ 0 → side n m ⊑ side n (set m (a - 1) (want s))
+  -- the map holds what it held, and its new side: it is below just the maps that do
+  module _ (v : ℕ) where
+    pub written-above : side n m a ≡ 0 → side n m ⊑ side n (set m (a - 1) v)
     written-above z =
-        record {
-          keeps =
-              λ t b e.
-              written-other (want s) b (λ q. want-decided t (sym e ∙ ap (side n m) q ∙ z)) ∙ e;
-        }
+        record { keeps = λ t b e. written-other v b (λ q. want-decided t (sym e ∙ ap (side n m) q ∙ z)) ∙ e }
 
-    pub written-below : (X : Map) → side n m ⊑ X → X a ≡ want s → side n (set m (a - 1) (want s)) ⊑ X
+    pub written-below : (X : Map) → side n m ⊑ X → X a ≡ v → side n (set m (a - 1) v) ⊑ X
     written-below X f e =
         record { keeps = λ t b h. ⊎-elim (here t b h) (other t b h) (decided (eqb b a)) }
       where
-        here : (t : Bool) (b : ℕ) → side n (set m (a - 1) (want s)) b ≡ want t → T (eqb b a) → X b ≡ want t
+        here : (t : Bool) (b : ℕ) → side n (set m (a - 1) v) b ≡ want t → T (eqb b a) → X b ≡ want t
         here t b h q =
             let k : b ≡ a = T-eq q in
-            ap X k ∙ e ∙ sym (written-same (want s)) ∙ sym (ap (side n (set m (a - 1) (want s))) k) ∙ h
+            ap X k ∙ e ∙ sym (written-same v) ∙ sym (ap (side n (set m (a - 1) v)) k) ∙ h
 
-        other : (t : Bool) (b : ℕ) → side n (set m (a - 1) (want s)) b ≡ want t → T (not (eqb b a)) → X b ≡ want t
-        other t b h q = f .keeps t b (sym (written-other (want s) b (T-ne q)) ∙ h)
+        other : (t : Bool) (b : ℕ) → side n (set m (a - 1) v) b ≡ want t → T (not (eqb b a)) → X b ≡ want t
+        other t b h q = f .keeps t b (sym (written-other v b (T-ne q)) ∙ h)
 
+  module _ (s : Bool) where
     pub written-map : IsMap n (side n m) → IsMap n (side n (set m (a - 1) (want s)))
     written-map mp =
         record {

@@ -112,13 +112,13 @@ module _ (P : List Rule) (n : ℕ) where
 
         module _ (z : M (c .atom) ≡ 0) where
           on : (X : Map) → Closed P n X → M ⊑ X → side n (write m c) ⊑ X
-          on X x f = written-below n m (c .atom) within long (c .sign) X f (concluded P n M fits f x c from)
+          on X x f = written-below n m (c .atom) within long (want (c .sign)) X f (concluded P n M fits f x c from)
 
           onward : (e : Ending) → Right (write m c) e → Right m e
           onward (closedAt m′) r = (
             record {
               closed = r .0 .closed;
-              holding = ⊑-trans (written-above n m (c .atom) within long (c .sign) z) (r .0 .holding);
+              holding = ⊑-trans (written-above n m (c .atom) within long (want (c .sign)) z) (r .0 .holding);
               below = λ X x f. r .0 .below X x (on X x f);
             },
             r .1 ∙ length-set m (c .atom - 1) (want (c .sign)),

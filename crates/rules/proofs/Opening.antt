@@ -101,7 +101,7 @@ taking-right n m (p ∷ ps) mp long w = step (eqb (side n m (p .atom)) (want (p 
           above =
               λ X f.
               let k = t .above X f in
-              let u = written-above n m (p .atom) here long (p .sign) z in (
+              let u = written-above n m (p .atom) here long (want (p .sign)) z in (
                 record { keeps = λ s a e. k .0 .keeps s a (u .keeps s a e) },
                 holding-cons
                     X
@@ -114,14 +114,14 @@ taking-right n m (p ∷ ps) mp long w = step (eqb (side n m (p .atom)) (want (p 
               λ X f g.
               t .below
               X
-              (written-below n m (p .atom) here long (p .sign) X f (g p (List·Memᴰ·head refl)))
+              (written-below n m (p .atom) here long (want (p .sign)) X f (g p (List·Memᴰ·head refl)))
               (λ r i. g r (List·Memᴰ·tail i));
         }
     writeOn z clash t =
         λ X f g.
         t
         X
-        (written-below n m (p .atom) here long (p .sign) X f (g p (List·Memᴰ·head refl)))
+        (written-below n m (p .atom) here long (want (p .sign)) X f (g p (List·Memᴰ·head refl)))
         (λ r i. g r (List·Memᴰ·tail i))
 
     apart : (side n m (p .atom) ≡ want (p .sign) → ⊥) → (side n m (p .atom) ≡ 0 → ⊥) → (X : Map) → side n m ⊑ X → Holding (p ∷ ps) X → ⊥

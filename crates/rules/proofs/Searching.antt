@@ -145,7 +145,7 @@ module _ {sh : Sheet} (ok : Numbered sh) where
 
         asked : (X : Map) → side n g ⊑ X → Guess M a s X
         asked X f = (
-          ⊑-trans (written-above n m a (low .within) long s (low .undecided)) f,
+          ⊑-trans (written-above n m a (low .within) long (want s) (low .undecided)) f,
           holding-cons
               X
               p
@@ -155,7 +155,7 @@ module _ {sh : Sheet} (ok : Numbered sh) where
         )
 
         answered : (X : Map) → Guess M a s X → side n g ⊑ X
-        answered X q = written-below n m a (low .within) long s X (q .0) (q .1 p (List·Memᴰ·head refl))
+        answered X q = written-below n m a (low .within) long (want s) X (q .0) (q .1 p (List·Memᴰ·head refl))
 
         pass : (q : List ℕ) → Least P n (Guess M a s) (side n q) → (f : Found) → FoundRight (Above sh (side n q)) f → FoundRight (Branch sh M a s) f
         pass q l (model r) h = branch-first ok M a (low .within) s l h

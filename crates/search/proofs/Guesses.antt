@@ -85,7 +85,7 @@ module _ {c : List ℕ} {n count : ℕ} {m : List ℕ} {i : ℕ} (op : Open c n 
   asked : (X : Map) → side n (set m i v) ⊑ X → Guess (side n m) (i + 1) s X
   asked X f =
       let g : side n written ⊑ X = subst (λ (l : List ℕ). side n l ⊑ X) (sym same) f in (
-        ⊑-trans (written-above n m (i + 1) (within op) (op .stands .proper .room) s (lowest-low op .undecided)) g,
+        ⊑-trans (written-above n m (i + 1) (within op) (op .stands .proper .room) (want s) (lowest-low op .undecided)) g,
         holding-cons
             X
             (record { atom = i + 1; sign = s })
@@ -105,7 +105,7 @@ module _ {c : List ℕ} {n count : ℕ} {m : List ℕ} {i : ℕ} (op : Open c n 
       (i + 1)
       (within op)
       (op .stands .proper .room)
-      s
+      (want s)
       X
       (q .0)
       (q .1 (record { atom = i + 1; sign = s }) (List·Memᴰ·head refl)))

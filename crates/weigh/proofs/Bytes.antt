@@ -1,8 +1,8 @@
--- The map that bytes are, after one of them is set: the atom of that byte is on the new side, every other as it was, and an
--- undecided atom less is left.
+-- A map's bytes after one of them is set are a map still, and an undecided atom less is left. (How the map has changed is in crate
+-- rules: proofs/Bytes.antt.)
 use Prim.Native.Nat.{ℕ, zero, suc, _-_, _≤_, _<_}
 use mathlib.Core.Path.{_≡_, sym, _∙_, ap, subst}
-use mathlib.Core.Bool.{Bool, cond}
+use mathlib.Core.Bool.{Bool}
 use mathlib.Core.Logic.{_⊎_, inl, inr, ⊎-elim}
 use mathlib.Core.List.{List, [], _∷_}
 use native.Mathlib.Omega.{arith}
@@ -12,68 +12,20 @@ use lib.ListN.{length, getD, take, set, length-set, replicate, length-replicate,
 use lib.Seq.{getD-set-same, getD-set-other}
 use Rattle.rules.specs.Sum.{counted, tally}
 use Rattle.rules.specs.Rule.{Within}
-use Rattle.rules.specs.Map.{Map, IsMap, side, want, _⊑_}
+use Rattle.rules.specs.Map.{IsMap, side}
 use Rattle.rules.proofs.Tests.{decided, T-eq, T-ne}
-use Rattle.rules.proofs.Maps.{want-decided}
-use Rattle.rules.proofs.Inside.{inside-true, inside-false, within?}
+use Rattle.rules.proofs.Inside.{within?}
+use Rattle.rules.proofs.Bytes.{side-at, side-beyond, side-map}
 use Rattle.weigh.specs.Step.{Proper, undecided}
-
-pub side-at : (n : ℕ) (m : List ℕ) (a : ℕ) → Within n a → side n m a ≡ getD m (a - 1) 0
-unfolding side
-side-at n m a w = ap (λ (b : Bool). cond b (getD m (a - 1) 0) 0) (inside-true w)
-
-pub side-beyond : (n : ℕ) (m : List ℕ) (a : ℕ) → (Within n a → ⊥) → side n m a ≡ 0
-unfolding side
-side-beyond n m a f = ap (λ (b : Bool). cond b (getD m (a - 1) 0) 0) (inside-false f)
 
 -- two numbers are equal, or they differ
 pub equal? : (x y : ℕ) → (x ≡ y) ⊎ (x ≡ y → ⊥)
 equal? x y = ⊎-elim (λ t. inl (T-eq t)) (λ t. inr (T-ne t)) (decided (eqb x y))
 
 pub proper-map : (n : ℕ) (m : List ℕ) → Proper n m → IsMap n (side n m)
-proper-map n m p =
-    record {
-      sides =
-          λ a.
-          ⊎-elim
-          (λ (w : Within n a). subst (λ (x : ℕ). x ≤ 2) (sym (side-at n m a w)) (p .sides (a - 1) (omega arith)))
-          (λ f. subst (λ (x : ℕ). x ≤ 2) (sym (side-beyond n m a f)) (omega arith))
-          (within? n a);
-      beyond = side-beyond n m;
-    }
+proper-map n m p = side-map n m (p .sides)
 
 module _ (n : ℕ) (m : List ℕ) (a v : ℕ) (w : Within n a) where
-  pub side-put : n ≤ length m → side n (set m (a - 1) v) a ≡ v
-  side-put h = side-at n (set m (a - 1) v) a w ∙ getD-set-same m (a - 1) v 0 (omega arith)
-
-  pub side-other : (x : ℕ) → (x ≡ a → ⊥) → side n (set m (a - 1) v) x ≡ side n m x
-  side-other x ne = ⊎-elim inner (λ f. side-beyond n (set m (a - 1) v) x f ∙ sym (side-beyond n m x f)) (within? n x)
-    where
-      apart : Within n x → x - 1 ≡ a - 1 → ⊥
-      apart u e = ne (omega arith)
-
-      inner : Within n x → side n (set m (a - 1) v) x ≡ side n m x
-      inner u = side-at n (set m (a - 1) v) x u ∙ getD-set-other m (a - 1) (x - 1) v 0 (apart u) ∙ sym (side-at n m x u)
-
-  -- the map holds what it held, and its new side: it is below just the maps that do
-  pub grown-put : side n m a ≡ 0 → side n m ⊑ side n (set m (a - 1) v)
-  grown-put z = record { keeps = λ s x e. side-other x (λ o. want-decided s (sym e ∙ ap (side n m) o ∙ z)) ∙ e }
-
-  pub below-put : n ≤ length m → (X : Map) → side n m ⊑ X → X a ≡ v → side n (set m (a - 1) v) ⊑ X
-  below-put h X f g = record { keeps = λ s x e. ⊎-elim (here s x e) (there s x e) (equal? x a) }
-    where
-      here : (s : Bool) (x : ℕ) → side n (set m (a - 1) v) x ≡ want s → x ≡ a → X x ≡ want s
-      here s x e o = ap X o ∙ g ∙ sym (side-put h) ∙ ap (side n (set m (a - 1) v)) (sym o) ∙ e
-
-      there : (s : Bool) (x : ℕ) → side n (set m (a - 1) v) x ≡ want s → (x ≡ a → ⊥) → X x ≡ want s
-      there s x e o = f .keeps s x (sym (side-other x o) ∙ e)
-
-  pub put-below :
-      n ≤ length m → (s : Bool) → v ≡ want s → side n m a ≡ 0 → (X : Map) → side n (set m (a - 1) v) ⊑ X
-      → (side n m ⊑ X) × (X a ≡ v)
-  put-below h s e z X f =
-      (record { keeps = λ t x g. f .keeps t x (grown-put z .keeps t x g) }, f .keeps s a (side-put h ∙ e) ∙ sym e)
-
   pub proper-put : v ≤ 2 → Proper n m → Proper n (set m (a - 1) v)
   proper-put h p =
       record {

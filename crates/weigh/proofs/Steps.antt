@@ -15,7 +15,8 @@ use Rattle.rules.proofs.Maps.{⊑-refl, ⊑-trans, sides}
 use Rattle.weigh.specs.declared.Outcome.{Outcome}
 use Rattle.weigh.specs.declared.Outcome.the-variants.{Clash, Same, Grew}
 use Rattle.weigh.specs.Step.{Forces, Clashes, Concludes, Proper, Kept, Grown, Went, Step, both, isClash, Till, Decided, Puts}
-use Rattle.weigh.proofs.Bytes.{proper-map, grown-put, below-put, proper-put, fewer-put}
+use Rattle.rules.proofs.Bytes.{written-above, written-below}
+use Rattle.weigh.proofs.Bytes.{proper-map, proper-put, fewer-put}
 
 pub kept-refl : (n : ℕ) (m : List ℕ) → Proper n m → Kept n m m
 kept-refl n m p = record { proper = p; long = refl; past = λ i h. refl }
@@ -135,8 +136,8 @@ module _ (Good : Map → Type 0) where
       forces : side n m a ≡ 0 → Forces Good (side n m) (side n (set m (a - 1) v))
       forces z =
           record {
-            keeps = grown-put n m a v w z;
-            sound = λ X g f. below-put n m a v w (p .room) X f (c .forced X g f);
+            keeps = written-above n m a w (p .room) v z;
+            sound = λ X g f. written-below n m a w (p .room) v X f (c .forced X g f);
           }
 
       -- putting an atom on the side where it has to be

@@ -2,7 +2,7 @@
 use borrow.Author.Needs.{needs}
 use mathlib.Core.Path.{sym}
 use denote.Ref.{now}
-use Rattle.weigh.proofs.Bytes.{side-at}
+use Rattle.rules.proofs.Bytes.{side-at}
 use Rattle.weigh.proofs.side_of.Statement.{statement}
 use Rattle.weigh.proofs.side_of.Tie as tie
 

@@ -2,7 +2,7 @@
 use borrow.Author.Needs.{needs}
 use denote.Ref.{now}
 use mathlib.Core.Path.{sym}
-use Rattle.weigh.proofs.Bytes.{side-at}
+use Rattle.rules.proofs.Bytes.{side-at}
 use Rattle.forcing.proofs.support.count_of.Statement.{statement}
 use Rattle.forcing.proofs.support.count_of.Tie as tie
 

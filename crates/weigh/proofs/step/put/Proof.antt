@@ -2,7 +2,7 @@
 use borrow.Author.Needs.{needs}
 use mathlib.Core.Path.{refl, sym, _∙_}
 use denote.Ref.{now}
-use Rattle.weigh.proofs.Bytes.{side-at}
+use Rattle.rules.proofs.Bytes.{side-at}
 use Rattle.weigh.proofs.step.put.Statement.{statement}
 use Rattle.weigh.proofs.step.put.Tie as tie
 
