@@ -1,9 +1,9 @@
 -- The coding loses nothing: a top below 2^24 and a value below 2^40 are read back from their code, and so are a sheet's counts
 -- and a margin from their values.
-use Prim.Native.Nat.{ℕ, suc, _+_, _*_, _/_, _%_, _≤_, _<_, _^_}
+use Prim.Native.Nat.{ℕ, suc, _+_, _/_, _%_, _<_, _^_}
 use mathlib.Core.Path.{_≡_}
 use native.Mathlib.Omega.{arith}
-use lib.IntN.{ℤ, pos, negsuc}
+use lib.IntN.{pos, negsuc}
 use Rattle.archive.specs.Code.{code, counts, raised}
 
 pub record ReadBack (base top value whole : ℕ) : Type 0 where

@@ -1,13 +1,13 @@
 -- The scan of a map finds nothing exactly where every byte is allowed.
-use Prim.Native.Nat.{ℕ, zero, suc, _+_, _-_, _≤_, _<_}
+use Prim.Native.Nat.{ℕ, zero, suc, _+_, _≤_, _<_}
 use mathlib.Core.Path.{_≡_, refl, sym, _∙_, ap, subst}
-use mathlib.Core.Logic.{_⊎_, inl, inr, ⊎-elim}
-use mathlib.Core.Bool.{Bool, true, false, not, _&&_}
+use mathlib.Core.Logic.{⊎-elim}
+use mathlib.Core.Bool.{Bool, true, false}
 use mathlib.Core.List.{List}
 use native.Mathlib.Omega.{arith}
 use native.Mathlib.Nat.{eq-or-lt-of-le}
 use lib.ListN.{getD}
-use lib.Dec.{T, leb, ltb, eqb, le→leb, lt→ltb, ltb→lt}
+use lib.Dec.{T, ltb, eqb, le→leb, lt→ltb, ltb→lt}
 use Rattle.rules.proofs.Tests.{T-true, T-false, eq-T, T-eq, and-T, T-and-left, T-and-right}
 use Rattle.desk.specs.Gate.{Fault, at, none, faultIf, faultFrom, mapFault, allowedAfter, isThrees}
 

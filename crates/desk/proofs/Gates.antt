@@ -1,7 +1,7 @@
 -- A promise by its gate: at each test of a call the gate is the refusal's where the test says so, and else the gate of what comes after.
 use Prim.Native.Nat.{ℕ, _≤_, _<_}
-use mathlib.Core.Path.{_≡_, sym, ap, subst}
-use mathlib.Core.Bool.{Bool, true, false, not}
+use mathlib.Core.Path.{_≡_, sym, subst}
+use mathlib.Core.Bool.{Bool, true, false}
 use mathlib.Core.List.{List}
 use lib.ListN.{length}
 use borrow.Author.Tests.{lt-ltb, le-ltb}
@@ -12,7 +12,7 @@ use Rattle.sheet.specs.Sheet.{checkOf}
 use Rattle.sheet.specs.Meaning.{sheetOf, sheetMeant}
 use Rattle.sheet.specs.declared.sheet.Outline.{Outline}
 use Rattle.sheet.specs.declared.sheet.Checked.the-variants.{Accepted, Refused}
-use Rattle.desk.specs.Gate.{Gate, stop, go, Fault, at, none, sheetThen, stopIf, roomThen, faultThen}
+use Rattle.desk.specs.Gate.{Gate, stop, Fault, at, none, sheetThen, stopIf, roomThen, faultThen}
 use Rattle.desk.proofs.Sheets.{stopped, went}
 
 module _ (F : Gate → Type 0) where

@@ -1,10 +1,10 @@
 -- Putting the atoms of a list on a map, one after another: the maps above the result are those above the start that hold the list,
 -- since each atom that is put is one that every such map has there; and an atom on the other side leaves none.
-use Prim.Native.Nat.{ℕ, zero, suc, _+_, _-_, _≤_, _<_}
+use Prim.Native.Nat.{ℕ, suc, _+_, _-_, _≤_, _<_}
 use mathlib.Core.Path.{_≡_, refl, sym, _∙_, ap, subst}
-use mathlib.Core.Logic.{_⊎_, inl, inr, ⊎-elim}
+use mathlib.Core.Logic.{_⊎_, inl, inr}
 use mathlib.Core.Bool.{Bool, true, false, not, true≢false, false≢true}
-use mathlib.Core.List.{List, [], _∷_, List·Memᴰ, List·Memᴰ·head, List·Memᴰ·tail}
+use mathlib.Core.List.{List, [], _∷_, List·Memᴰ·head, List·Memᴰ·tail}
 use native.Mathlib.Omega.{arith}
 use lib.Dec.{T, eqb}
 use Rattle.rules.specs.Sum.{has}

@@ -2,8 +2,8 @@
 use Prim.Native.Nat.{ℕ, _+_, _-_, _≤_, _<_}
 use mathlib.Core.Path.{_≡_, refl, sym, _∙_, ap, subst}
 use mathlib.Core.Logic.{_⊎_, inl, inr, ⊎-elim}
-use mathlib.Core.Bool.{Bool, true, false, not}
-use mathlib.Core.List.{List, _++_}
+use mathlib.Core.Bool.{not}
+use mathlib.Core.List.{List}
 use native.Mathlib.Omega.{arith}
 use lib.ListN.{length, getD, drop, set, replicate, length-set, length-drop, length-append, length-replicate, getD-replicate, List·getD-append}
 use lib.Seq.{ext-getD, getD-drop, getD-append-add, getD-set-same, getD-set-other}

@@ -1,14 +1,13 @@
 -- Order does not matter. After open and after each accepted pin the map is the least closed map that holds the compute lists and the
 -- accepted pins so far, or the contradiction; a refused pin leaves it alone. The least map sees neither the order of the rules nor
 -- the order of the pins, so two such runs end in the same bytes.
-use Prim.Native.Nat.{ℕ, _+_, _≤_, _<_}
+use Prim.Native.Nat.{ℕ, _≤_, _<_}
 use mathlib.Core.Path.{_≡_, refl, sym, _∙_, ap, ap₂, subst}
-use mathlib.Core.Logic.{_⊎_, inl, inr, ⊎-elim}
 use mathlib.Core.Bool.{Bool, true, false, not, _&&_}
-use mathlib.Core.List.{List, [], _∷_, _++_, append-assoc, append-nil, map, List·Memᴰ, List·Memᴰ·head, List·Memᴰ·append-cases, Memᴰ·append-left, Memᴰ·append-right}
+use mathlib.Core.List.{List, [], _∷_, _++_, append-assoc, append-nil, map}
 use native.Mathlib.Omega.{arith}
 use lib.ListN.{length, getD, drop, replicate, length-append, length-replicate, List·getD-append, getD-replicate}
-use lib.Dec.{T, ltb, nltb→le, not-T}
+use lib.Dec.{T}
 use borrow.Author.Tests.{le-ltb}
 use Rattle.rules.specs.Rule.{Sheet, Numbered, Shuffled}
 use Rattle.rules.specs.Stable.{Set, Model}
@@ -22,9 +21,9 @@ use Rattle.rules.proofs.Tests.{T-and-left}
 use Rattle.rules.proofs.Inside.{inside-within}
 use Rattle.numbers.specs.Answer.{refusal}
 use Rattle.numbers.specs.declared.Refusal.{Refusal}
-use Rattle.sheet.specs.Meaning.{Reading, accepted, refused, sheetOf}
-use Rattle.desk.specs.Gate.{Gate, stop, go, Fault, none, sheetThen, stopIf, roomThen, pinThen, faultThen, openGate, pinGate, mapFault, isThrees}
-use Rattle.desk.specs.Promise.{Upon, Opens, Pins, Ends, PinEnds, ClosedMap, NoMap, Asked, Written, threes, pinned}
+use Rattle.sheet.specs.Meaning.{Reading, accepted, sheetOf}
+use Rattle.desk.specs.Gate.{Gate, go, Fault, none, sheetThen, stopIf, roomThen, pinThen, faultThen, openGate, pinGate, mapFault, isThrees}
+use Rattle.desk.specs.Promise.{Upon, Opens, Pins, Ends, PinEnds, ClosedMap, Asked, threes, pinned}
 use Rattle.weigh.specs.Step.{undecided}
 use Rattle.desk.specs.Run.{Pin, keepIf, acceptedOf, Pinning, done, next, Run, Final, closed, contradiction}
 use Rattle.desk.specs.declared.Opened.{Opened}

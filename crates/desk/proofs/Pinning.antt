@@ -1,33 +1,31 @@
 -- Pin, put together: the pin is put on a copy of the map, and the copy closed; and pin by its gate, one refusal after another.
-use Prim.Native.Nat.{ℕ, _+_, _≤_, _<_}
+use Prim.Native.Nat.{ℕ, _≤_, _<_}
 use mathlib.Core.Path.{_≡_, refl, sym, _∙_, ap, subst}
 use mathlib.Core.Bool.{Bool, true, false, not, _&&_, and-false}
-use mathlib.Core.List.{List, [], _∷_}
+use mathlib.Core.List.{List}
 use native.Mathlib.Omega.{arith}
 use lib.ListN.{length, getD}
 use lib.Dec.{T, ltb, leb, eqb, leb→le, lt→ltb}
 use borrow.Author.Tests.{lt-leb}
-use Rattle.rules.specs.Rule.{Sheet, Within}
-use Rattle.rules.specs.Map.{Map, Holding, inside, side, _⊑_}
+use Rattle.rules.specs.Rule.{Sheet}
+use Rattle.rules.specs.Map.{Map, inside, side, _⊑_}
 use Rattle.rules.specs.Number.{atomOf, pickAtom}
 use Rattle.rules.specs.declared.Atom.{Atom}
 use Rattle.rules.specs.declared.AtomOr.{AtomOr}
 use Rattle.rules.specs.declared.AtomOr.the-variants.{Is, Not}
-use Rattle.rules.proofs.Tests.{T-true, T-false, and-T, true-T}
-use Rattle.rules.proofs.Inside.{inside-within, inside-true}
+use Rattle.rules.proofs.Tests.{T-false, and-T}
+use Rattle.rules.proofs.Inside.{inside-true}
 use Rattle.numbers.specs.declared.Refusal.{Refusal}
 use Rattle.numbers.specs.Answer.{refusal}
 use Rattle.sheet.specs.Sheet.{checkOf}
 use Rattle.sheet.specs.Meaning.{sheetMeant}
 use Rattle.sheet.specs.declared.sheet.Outline.{Outline}
 use Rattle.sheet.specs.declared.sheet.Checked.the-variants.{Accepted, Refused}
-use Rattle.table.specs.Rows.{rulesAt}
 use Rattle.weigh.specs.Step.{Proper}
 use Rattle.forcing.specs.declared.Closing.{Closing}
-use Rattle.desk.specs.Gate.{Gate, stop, go, Fault, at, none, sheetThen, stopIf, roomThen, pinThen, faultThen, mapFault, allowedAfter, isThrees, pinGate}
-use Rattle.desk.specs.Promise.{Pins, PinsBy, PinEnds, Ends, Asked, pinned}
+use Rattle.desk.specs.Gate.{Gate, go, at, none, roomThen, pinThen, faultThen, mapFault, allowedAfter, isThrees, pinGate}
+use Rattle.desk.specs.Promise.{Pins, PinsBy, PinEnds}
 use Rattle.desk.specs.Bytes.{Copied, Room}
-use Rattle.desk.specs.Held.{signed}
 use Rattle.desk.specs.Work.{Presses, Hands}
 use Rattle.desk.specs.declared.Opened.{Opened}
 use Rattle.desk.specs.declared.Opened.the-variants.{Contradiction as Contradicted, Refused as RefusedMap}

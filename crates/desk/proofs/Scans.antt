@@ -11,7 +11,7 @@ use borrow.Author.Tests.{lt-ltb}
 use lib.Dec.{T, T-not, leb, eqb, leb→le, le→leb}
 use Rattle.rules.specs.Map.{inside}
 use Rattle.rules.proofs.Tests.{T-true, T-false, T-same, T-eq, eq-T, and-T, T-and-left, T-and-right}
-use Rattle.desk.specs.Gate.{Fault, at, none, faultIf, faultFrom, mapFault, modelFault, allowedAfter, isThrees}
+use Rattle.desk.specs.Gate.{at, faultIf, faultFrom, mapFault, modelFault, allowedAfter, isThrees}
 use Rattle.desk.specs.Bytes.{between, FirstFault}
 use Rattle.desk.specs.Scan.{Scanned}
 use Rattle.desk.proofs.Faults.{no-fault}

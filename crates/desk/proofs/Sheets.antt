@@ -1,12 +1,10 @@
 -- What a checked sheet means: a refusal is its reading's, and an accepted sheet names only its own atoms. So each call's gate is
 -- known from the check of the sheet and the tests that follow.
-use Prim.Native.Nat.{ℕ, _≤_}
-use mathlib.Core.Path.{_≡_, refl, sym, _∙_, ap, subst}
+use Prim.Native.Nat.{ℕ}
+use mathlib.Core.Path.{_≡_, refl, sym, ap, subst}
 use mathlib.Core.List.{List}
 use lib.ListN.{length}
-use lib.Dec.{T}
-use Rattle.rules.specs.Sum.{has}
-use Rattle.rules.specs.Rule.{Sheet, Within, Numbered}
+use Rattle.rules.specs.Rule.{Sheet, Numbered}
 use Rattle.rules.proofs.Tests.{has-mem}
 use Rattle.numbers.specs.declared.Refusal.{Refusal}
 use Rattle.sheet.specs.Sheet.{checkOf, checkThen}

@@ -1,15 +1,15 @@
 -- Solve, put together: the models above the opened map are all the agreeing stable models, so the first that the search finds above
 -- it is the first of all, and where it finds none, or the opening is a contradiction, there is none.
-use Prim.Native.Nat.{ℕ, _+_, _≤_, _<_}
+use Prim.Native.Nat.{ℕ, _+_, _≤_}
 use mathlib.Core.Path.{_≡_, refl, sym, _∙_, ap, subst}
-use mathlib.Core.Bool.{Bool, true, false, true≢false, false≢true}
+use mathlib.Core.Bool.{Bool, true, false}
 use mathlib.Core.List.{List}
 use native.Mathlib.Omega.{arith}
-use lib.ListN.{length, getD, replicate}
-use Rattle.rules.specs.Rule.{Rule, Sheet, Within, Numbered}
-use Rattle.rules.specs.Stable.{Set, First, NoModel}
+use lib.ListN.{replicate}
+use Rattle.rules.specs.Rule.{Rule, Sheet, Numbered}
+use Rattle.rules.specs.Stable.{First, NoModel}
 use Rattle.rules.specs.Map.{Map, Holding, side, is}
-use Rattle.rules.specs.Forcing.{Least, Contradiction, computed}
+use Rattle.rules.specs.Forcing.{Least, computed}
 use Rattle.rules.proofs.Bytes.{side-index, index-within}
 use Rattle.rules.proofs.Least.{least-same, contradiction-same}
 use Rattle.rules.proofs.First.{first-above, all-above, none-at-all}
@@ -17,14 +17,13 @@ use Rattle.sheet.specs.Meaning.{sheetMeant}
 use Rattle.sheet.specs.declared.sheet.Outline.{Outline}
 use Rattle.sheet.proofs.sheet.Written.{meant}
 use Rattle.table.specs.Rows.{rulesAt}
-use Rattle.forcing.specs.declared.Closing.{Closing}
 use Rattle.forcing.specs.declared.Closing.the-variants.{NoneHolds, ClosedWith}
-use Rattle.search.specs.Search.{sheetFor, Stands, Answers, FirstIn, Whole as WholeMap}
+use Rattle.search.specs.Search.{sheetFor, Stands, Answers, Whole as WholeMap}
 use Rattle.desk.specs.Gate.{go}
 use Rattle.desk.specs.Promise.{SolvesBy, SolveEnds, Whole, threes}
 use Rattle.desk.specs.Bytes.{Copied}
-use Rattle.desk.specs.Work.{Coded, Finish, Finishes, With}
-use Rattle.desk.specs.Models.{HandModel, Models}
+use Rattle.desk.specs.Work.{Coded, Finishes, With}
+use Rattle.desk.specs.Models.{Models}
 use Rattle.desk.specs.declared.Solved.{Solved}
 use Rattle.desk.specs.declared.Solved.the-variants.{Model as ModelFound, NoModel as NoneFound}
 use Rattle.desk.proofs.Sheets.{numbered}

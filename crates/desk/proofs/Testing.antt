@@ -1,20 +1,19 @@
 -- Test, put together: a map of 1s and 2s with the compute lists can only be closed as it stands, so a closed map above it is itself,
 -- whose in-atoms are an agreeing stable model; and the total map of such a model would be a closed map above it.
-use Prim.Native.Nat.{ℕ, _+_, _-_, _≤_, _<_}
+use Prim.Native.Nat.{ℕ, _-_, _≤_, _<_}
 use mathlib.Core.Path.{_≡_, refl, sym, _∙_, ap, subst, fun-ext}
-use mathlib.Core.Logic.{_⊎_, inl, inr, ⊎-elim}
+use mathlib.Core.Logic.{_⊎_, inl, inr}
 use mathlib.Core.Bool.{Bool, true, false, not}
 use mathlib.Core.List.{List}
 use native.Mathlib.Omega.{arith}
 use lib.ListN.{length, getD}
-use lib.Dec.{T}
-use Rattle.rules.specs.Rule.{Rule, Sheet, Within, Numbered}
-use Rattle.rules.specs.Stable.{Set, Model}
-use Rattle.rules.specs.Map.{Map, Holding, IsMap, inside, side, is, want, total, _⊑_}
-use Rattle.rules.specs.Forcing.{Least, Contradiction, computed}
+use Rattle.rules.specs.Rule.{Sheet, Within, Numbered}
+use Rattle.rules.specs.Stable.{Model}
+use Rattle.rules.specs.Map.{Map, IsMap, inside, side, is, want, total, _⊑_}
+use Rattle.rules.specs.Forcing.{Least, computed}
 use Rattle.rules.proofs.Tests.{eq-T, ne-T}
 use Rattle.rules.proofs.Inside.{inside-within}
-use Rattle.rules.proofs.Maps.{sides, want-apart, want-decided, decided-within, ⊑-antisym}
+use Rattle.rules.proofs.Maps.{sides, want-apart, decided-within, ⊑-antisym}
 use Rattle.rules.proofs.Bytes.{side-at, side-map}
 use Rattle.rules.proofs.Total.{total-in, total-out, closed-stable}
 use Rattle.rules.proofs.Models.{holding-agrees, model-closed, model-holding}
@@ -26,9 +25,8 @@ use Rattle.sheet.specs.declared.sheet.Outline.{Outline}
 use Rattle.sheet.specs.declared.sheet.Checked.the-variants.{Accepted, Refused}
 use Rattle.sheet.proofs.sheet.Written.{meant}
 use Rattle.weigh.specs.Step.{Proper}
-use Rattle.forcing.specs.declared.Closing.{Closing}
 use Rattle.forcing.specs.declared.Closing.the-variants.{NoneHolds, ClosedWith}
-use Rattle.desk.specs.Gate.{Gate, stop, go, Fault, at, none, sheetThen, roomThen, faultThen, modelFault, testGate}
+use Rattle.desk.specs.Gate.{Gate, go, Fault, at, none, roomThen, faultThen, modelFault, testGate}
 use Rattle.desk.specs.Promise.{Tests, TestsBy}
 use Rattle.desk.specs.Bytes.{Copied}
 use Rattle.desk.specs.Work.{With, Settles}

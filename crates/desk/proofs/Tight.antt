@@ -1,17 +1,16 @@
 -- Tight: two answers that meet one promise for the same input are equal, in the answer and in every lent byte. A refusal is named
 -- by the gate; a closed map is the least, which is unique, and not beside a contradiction; the first model is unique.
 use Prim.Native.Nat.{ℕ, _+_, _≤_, _<_}
-use mathlib.Core.Path.{_≡_, refl, sym, _∙_, ap, ap₂, subst}
-use mathlib.Core.Logic.{_⊎_, inl, inr, ⊎-elim}
+use mathlib.Core.Path.{_≡_, refl, sym, _∙_, ap, subst}
+use mathlib.Core.Logic.{_⊎_, inl, inr}
 use mathlib.Core.Bool.{Bool, true, false, not}
-use mathlib.Core.List.{List, [], _∷_}
+use mathlib.Core.List.{List}
 use native.Mathlib.Omega.{arith}
 use lib.ListN.{length, getD}
 use lib.Dec.{T, eqb, ltb}
-use Rattle.rules.specs.Rule.{Sheet, Numbered, Within}
-use Rattle.rules.specs.Stable.{First, NoModel}
-use Rattle.rules.specs.Map.{Map, Holding, side, is}
-use Rattle.rules.specs.Forcing.{Least, Contradiction, computed}
+use Rattle.rules.specs.Rule.{Sheet, Numbered}
+use Rattle.rules.specs.Map.{Map, Holding, is}
+use Rattle.rules.specs.Forcing.{computed}
 use Rattle.rules.proofs.Least.{least-unique, least-or-contradiction}
 use Rattle.rules.proofs.First.{first-unique}
 use Rattle.rules.proofs.Bytes.{side-index}
@@ -22,7 +21,7 @@ use Rattle.numbers.specs.declared.Refusal.{Refusal}
 use Rattle.numbers.specs.Answer.{refusal}
 use Rattle.sheet.specs.Meaning.{Reading, accepted, refused, sheetOf}
 use Rattle.desk.specs.Gate.{Gate, stop, go, sheetThen, stopIf, roomThen, sheetGate, ruleGate, openGate, pinGate, testGate, marginGate, isThrees}
-use Rattle.desk.specs.Promise.{Upon, Checks, Parts, Opens, Pins, Solves, Tests, Margins, Ends, PinEnds, SolveEnds, TestEnds, ClosedMap, Asked}
+use Rattle.desk.specs.Promise.{Upon, Checks, Parts, Opens, Pins, Solves, Tests, Margins, Ends, PinEnds, SolveEnds, TestEnds, Asked}
 use Rattle.desk.specs.declared.Checked.{Checked}
 use Rattle.desk.specs.declared.Part.{Part}
 use Rattle.desk.specs.declared.Opened.{Opened}

@@ -3,9 +3,9 @@
 use Prim.Native.Nat.{ℕ, _≤_, _<_}
 use mathlib.Core.Path.{_≡_, refl, sym, _∙_, ap, subst, fun-ext}
 use mathlib.Core.Bool.{Bool, true, false, true≢false, false≢true}
-use mathlib.Core.List.{List, [], _∷_, _++_}
+use mathlib.Core.List.{List, _++_}
 use native.Mathlib.Omega.{arith}
-use lib.ListN.{length, getD, take, replicate}
+use lib.ListN.{length, take, replicate}
 use lib.Seq.{ext-getD, length-take-le, getD-take}
 use lib.Dec.{eqb}
 use Rattle.rules.specs.Sum.{tally}
@@ -25,14 +25,14 @@ use Rattle.sheet.proofs.sheet.Written.{meant}
 use Rattle.sheet.proofs.sheet.Ran.{sheet-ran}
 use Rattle.table.specs.Words.{pairWidth}
 use Rattle.table.specs.Rows.{rulesAt}
-use Rattle.weigh.specs.Step.{Proper, Kept, undecided}
+use Rattle.weigh.specs.Step.{Proper, undecided}
 use Rattle.forcing.specs.Close.{ClosedAs, ClosesMap}
 use Rattle.forcing.specs.declared.Closing.{Closing}
 use Rattle.forcing.specs.declared.Closing.the-variants.{NoneHolds, ClosedWith}
 use Rattle.weigh.proofs.Steps.{kept-trans}
 use Rattle.weigh.proofs.Bytes.{blank-room, blank-side}
 use Rattle.decode.specs.Decode.{tableWords, Decoded, Ready as ReadyWords}
-use Rattle.desk.specs.Held.{Above, Takes, Listed}
+use Rattle.desk.specs.Held.{Takes, Listed}
 use Rattle.desk.specs.Gate.{go}
 use Rattle.desk.specs.Promise.{Ends, OpensBy, Written, threes}
 use Rattle.desk.specs.Bytes.{Copied, Room}

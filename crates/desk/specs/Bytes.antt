@@ -3,7 +3,7 @@ use Prim.Native.Nat.{ℕ, _≤_, _<_}
 use mathlib.Core.Path.{_≡_}
 use mathlib.Core.Bool.{Bool, not, _&&_}
 use mathlib.Core.List.{List}
-use lib.ListN.{getD, length, drop}
+use lib.ListN.{getD, length}
 use lib.Dec.{T, leb}
 use Rattle.desk.specs.Promise.{Written}
 

@@ -1,7 +1,7 @@
 -- "Number 9 is tested first, then the sheet in reading order, then 10, 11, 13, 12, 14, as far as the call has such an input."
 -- What stops a call, or the sheet on which it goes on.
-use Prim.Native.Nat.{ℕ, zero, suc, _+_, _-_}
-use mathlib.Core.Bool.{Bool, true, false, not, _&&_, _||_}
+use Prim.Native.Nat.{ℕ, zero, suc, _+_}
+use mathlib.Core.Bool.{Bool, true, false, not, _&&_}
 use mathlib.Core.List.{List}
 use lib.ListN.{length, getD}
 use lib.Dec.{ltb, leb, eqb}

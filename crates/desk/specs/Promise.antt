@@ -7,7 +7,7 @@ use lib.ListN.{length, getD, drop, replicate}
 use lib.Dec.{eqb, ltb}
 use Rattle.rules.specs.Rule.{Rule, Kind, basic, constraint, choice, weight, Weighted, Sheet}
 use Rattle.rules.specs.Stable.{Model, First, NoModel}
-use Rattle.rules.specs.Map.{Map, Literal, Holding, IsMap, side, is, margin, _⊑_}
+use Rattle.rules.specs.Map.{Map, Literal, Holding, side, is, margin, _⊑_}
 use Rattle.rules.specs.Forcing.{Least, Contradiction, computed}
 use Rattle.numbers.specs.declared.Refusal.{Refusal}
 use Rattle.numbers.specs.Answer.{pick}

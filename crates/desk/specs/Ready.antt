@@ -8,7 +8,6 @@ use Rattle.table.specs.Rows.{Laid}
 use Rattle.weigh.specs.Step.{Proper}
 use Rattle.sheet.specs.Sheet.{checkOf}
 use Rattle.desk.specs.Gate.{modelFault, none}
-use Rattle.sheet.specs.Meaning.{sheetMeant}
 use Rattle.sheet.specs.declared.sheet.Outline.{Outline}
 use Rattle.sheet.specs.declared.sheet.Checked.the-variants.{Accepted}
 

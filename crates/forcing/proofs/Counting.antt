@@ -8,7 +8,7 @@ use mathlib.Core.List.{List}
 use native.Mathlib.Omega.{arith}
 use borrow.Author.Tests.{eq-eqb, ne-eqb, le-leb}
 use lib.Dec.{T, eqb}
-use lib.ListN.{length, set, length-set}
+use lib.ListN.{length, set}
 use Rattle.rules.specs.Limits.{rulesMost}
 use Rattle.rules.specs.Sum.{counted, tally, has}
 use Rattle.rules.specs.Rule.{Within}

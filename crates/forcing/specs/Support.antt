@@ -12,7 +12,7 @@ use Rattle.rules.specs.Sum.{counted, has}
 use Rattle.rules.specs.Rule.{Rule, Weighted, Within, body}
 use Rattle.rules.specs.Map.{Map, side, is, reach, _⊑_}
 use Rattle.rules.specs.Forcing.{Closed, supports, supporters}
-use Rattle.table.specs.Words.{atomAt, atoms}
+use Rattle.table.specs.Words.{atoms}
 use Rattle.table.specs.Rows.{headsAt, positivesAt, ruleAt, rulesFrom, rulesAt, Row}
 use Rattle.weigh.specs.declared.Outcome.{Outcome}
 use Rattle.weigh.specs.Step.{Proper, Kept, Step, Till}

@@ -1,16 +1,16 @@
 -- A map held in bytes: atom a at index a - 1. Writing a side to an undecided atom's byte gives the map that is above the old one
 -- and below every map above the old one that has the atom on that side.
-use Prim.Native.Nat.{ℕ, zero, suc, _+_, _-_, _≤_, _<_}
-use mathlib.Core.Path.{_≡_, refl, sym, _∙_, subst, ap}
-use mathlib.Core.Logic.{_⊎_, inl, inr, ⊎-elim}
+use Prim.Native.Nat.{ℕ, _+_, _-_, _≤_, _<_}
+use mathlib.Core.Path.{_≡_, sym, _∙_, ap}
+use mathlib.Core.Logic.{⊎-elim}
 use mathlib.Core.Bool.{Bool, true, false, not, cond}
-use mathlib.Core.List.{List, [], _∷_}
+use mathlib.Core.List.{List}
 use native.Mathlib.Omega.{arith}
 use lib.ListN.{length, getD, set}
 use lib.Seq.{getD-set-same, getD-set-other}
 use lib.Dec.{T, eqb}
 use Rattle.rules.specs.Rule.{Within}
-use Rattle.rules.specs.Map.{Map, IsMap, inside, side, want, _⊑_}
+use Rattle.rules.specs.Map.{Map, IsMap, side, want, _⊑_}
 use Rattle.rules.proofs.Tests.{decided, T-eq, T-ne}
 use Rattle.rules.proofs.Inside.{inside-true, inside-false, within?}
 use Rattle.rules.proofs.Maps.{want-decided}

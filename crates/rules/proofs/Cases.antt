@@ -1,17 +1,17 @@
 -- Every worked case of the table holds of the definitions: the computed opening and search, proved right, are run on each row and
 -- compared with what the row expects, and the row's atoms with its n.
-use Prim.Native.Nat.{ℕ, _≤_}
-use mathlib.Core.Path.{_≡_, refl, sym, _∙_, subst, ap₂}
-use mathlib.Core.Bool.{Bool, true, false, not, _&&_}
+use Prim.Native.Nat.{ℕ}
+use mathlib.Core.Path.{_≡_, refl, subst, ap₂}
+use mathlib.Core.Bool.{Bool, true, false, _&&_}
 use mathlib.Core.List.{List, [], _∷_, List·Memᴰ}
 use lib.Dec.{T, eqb}
 use Rattle.rules.specs.Sum.{tally, has}
-use Rattle.rules.specs.Rule.{Rule, Weighted, Sheet, Within, Fits, Numbered, body}
+use Rattle.rules.specs.Rule.{Rule, Weighted, Sheet, Within, Numbered, body}
 use Rattle.rules.specs.Stable.{value}
 use Rattle.rules.specs.Map.{Literal, inside, side}
 use Rattle.rules.specs.Cases.{Case, Expected, bytes, nothing, MapIs, ModelIs, Proved, cases}
 use Rattle.rules.specs.Paper.{those}
-use Rattle.rules.proofs.Tests.{and-T, T-and-left, T-and-right, T-eq, has-mem}
+use Rattle.rules.proofs.Tests.{T-and-left, T-and-right, T-eq, has-mem}
 use Rattle.rules.proofs.Inside.{inside-within}
 use Rattle.rules.proofs.Lists.{every, every-T}
 use Rattle.rules.proofs.Fixpoint.{grow}

@@ -11,11 +11,11 @@ use lib.ListN.{length, set, length-set}
 use lib.Dec.{T, eqb}
 use Rattle.rules.specs.Sum.{tally}
 use Rattle.rules.specs.Rule.{Rule, Within, Fits}
-use Rattle.rules.specs.Map.{Map, Literal, Holding, IsMap, side, want, is, _⊑_}
+use Rattle.rules.specs.Map.{Map, Literal, Holding, IsMap, side, want, _⊑_}
 use Rattle.rules.specs.Forcing.{Closed, Least, Contradiction}
 use Rattle.rules.specs.Paper.{those}
 use Rattle.rules.proofs.Tests.{eq-T, T-eq, ne-T, T-ne, decided}
-use Rattle.rules.proofs.Sum.{tally-more, tally-mono}
+use Rattle.rules.proofs.Sum.{tally-more}
 use Rattle.rules.proofs.Lists.{upTo, within-upTo, those-mem, mem-those}
 use Rattle.rules.proofs.Maps.{sides, want-decided, want-apart, ⊑-refl, ⊑-trans}
 use Rattle.rules.proofs.Bytes.{written-same, written-other, written-above, written-below, written-map}

@@ -2,20 +2,17 @@
 -- and a map that holds them all is closed.
 use Prim.Native.Nat.{ℕ, _+_, _≤_, _<_}
 use mathlib.Core.Path.{_≡_, refl, sym, _∙_, subst}
-use mathlib.Core.Logic.{_⊎_, inl, inr, ⊎-elim}
+use mathlib.Core.Logic.{⊎-elim}
 use mathlib.Core.Bool.{Bool, true, false, not, _&&_}
 use mathlib.Core.List.{List, [], _∷_, _++_, map, List·Memᴰ, List·Memᴰ·head, List·Memᴰ·tail, List·Memᴰ·eq-of-singleton, List·Memᴰ·append-cases, Memᴰ·append-left, Memᴰ·append-right}
-use native.Mathlib.Omega.{arith}
 use lib.Dec.{T, eqb, leb, ltb, leb→le, le→leb, ltb→lt, lt→ltb, T-not}
 use Rattle.rules.specs.Sum.{has}
 use Rattle.rules.specs.Rule.{Rule, Weighted, Within, Fits, body, chooses}
-use Rattle.rules.specs.Stable.{Set, value}
 use Rattle.rules.specs.Map.{Map, Literal, Holding, IsMap, want, sure, reach, _⊑_}
-use Rattle.rules.specs.Forcing.{Closed, Founded, supports, supporters, inn, out}
+use Rattle.rules.specs.Forcing.{Closed, supports, supporters, inn, out}
 use Rattle.rules.proofs.Tests.{and-T, T-and-left, T-and-right, eq-T, T-eq, has-mem, mem-has, decided}
 use Rattle.rules.proofs.Lists.{some, some-T, T-some, each, each-mem, mem-each, guard, guard-mem, mem-guard, upTo, upTo-within, within-upTo}
 use Rattle.rules.proofs.Members.{map-mem, mem-map}
-use Rattle.rules.proofs.Least.{holding-left, holding-right}
 use Rattle.rules.proofs.Maps.{want-decided}
 use Rattle.rules.proofs.Forced.{forced-first, forced-second, forced-third, forced-fourth}
 use Rattle.rules.proofs.Founding.{U, U-founded, founded-U}

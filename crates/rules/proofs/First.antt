@@ -1,22 +1,22 @@
 -- The first model is unique, since two sets of atoms up to n are equal or one comes before the other. Below the lowest undecided
 -- atom of a map all models above the map agree, so a model with that atom in comes before each with it out: trying in and then
 -- out finds the first.
-use Prim.Native.Nat.{ℕ, zero, suc, _+_, _≤_, _<_}
+use Prim.Native.Nat.{ℕ, zero, suc, _<_}
 use mathlib.Core.Path.{_≡_, refl, sym, _∙_, subst}
 use mathlib.Core.Logic.{_⊎_, inl, inr, ⊎-elim}
-use mathlib.Core.Bool.{Bool, true, false, not}
-use mathlib.Core.List.{[], _∷_, List·Memᴰ·head}
+use mathlib.Core.Bool.{Bool, true, false}
+use mathlib.Core.List.{[], List·Memᴰ·head}
 use native.Mathlib.Omega.{arith}
 use native.Mathlib.Nat.{eq-or-lt-of-le, le-of-suc-le-suc, not-suc-le-zero}
 use lib.Dec.{T, T-not}
-use Rattle.rules.specs.Rule.{Rule, Sheet, Within, Numbered}
+use Rattle.rules.specs.Rule.{Sheet, Within, Numbered}
 use Rattle.rules.specs.Stable.{Set, outside, Before, FirstOf, First, Model}
-use Rattle.rules.specs.Map.{Map, Literal, Holding, IsMap, want, is, total, _⊑_}
+use Rattle.rules.specs.Map.{Map, Literal, Holding, IsMap, want, is, total}
 use Rattle.rules.specs.Forcing.{Closed, Least, Contradiction, computed}
 use Rattle.rules.specs.Search.{Above, Lowest, On, Branch, Guess}
 use Rattle.rules.proofs.Tests.{eq-T, ne-T, T-ne, T-true, T-false, decided, order}
 use Rattle.rules.proofs.Inside.{within?}
-use Rattle.rules.proofs.Maps.{sides, decided-within, want-apart, want-decided, ⊑-trans}
+use Rattle.rules.proofs.Maps.{sides, decided-within, want-apart, ⊑-trans}
 use Rattle.rules.proofs.Total.{total-in, total-out, in-total, out-total, stable-within, closed-stable}
 use Rattle.rules.proofs.Least.{holding-cons, holding-nil}
 use Rattle.rules.proofs.Models.{model-closed, model-holding, holding-agrees}

@@ -11,9 +11,9 @@ use lib.Dec.{T, eqb, leb, leb→le, le→leb}
 use Rattle.rules.specs.Sum.{has}
 use Rattle.rules.specs.Rule.{Rule, Weighted, Within, body, chooses}
 use Rattle.rules.specs.Stable.{Set, value}
-use Rattle.rules.specs.Map.{Map, IsMap, want, is, isnt, sure, reach, _⊑_}
+use Rattle.rules.specs.Map.{Map, want, isnt, sure, reach, _⊑_}
 use Rattle.rules.specs.Forcing.{Closed, Grounds, Founded, supports, supporters}
-use Rattle.rules.proofs.Tests.{eq-T, T-eq, ne-T, T-ne, and-T, T-and-left, T-and-right}
+use Rattle.rules.proofs.Tests.{ne-T, T-ne, and-T, T-and-left, T-and-right}
 use Rattle.rules.proofs.Sum.{tally-mono, count-some, count-one, find}
 use Rattle.rules.proofs.Value.{by, value-mono}
 use Rattle.rules.proofs.Maps.{sides, decided-within, want-apart, want-decided, sure-grows, reach-falls, sure-more, reach-less}

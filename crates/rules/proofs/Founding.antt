@@ -1,13 +1,11 @@
 -- Rule 4's set U, computed: it is grounds, and it is below every other grounds, so its atoms are the founded ones.
 use Prim.Native.Nat.{ℕ, _≤_}
-use mathlib.Core.Path.{_≡_, refl, sym, _∙_, subst}
-use mathlib.Core.Logic.{_⊎_, inl, inr, ⊎-elim}
-use mathlib.Core.Bool.{Bool, true, false, not, _&&_}
+use mathlib.Core.Bool.{Bool, true, false, _&&_}
 use mathlib.Core.List.{List, List·Memᴰ}
 use native.Mathlib.Omega.{arith}
 use lib.Dec.{T, leb, leb→le, le→leb}
 use Rattle.rules.specs.Sum.{has}
-use Rattle.rules.specs.Rule.{Rule, Weighted, Within, Fits, body}
+use Rattle.rules.specs.Rule.{Rule, Weighted, Fits, body}
 use Rattle.rules.specs.Stable.{Set, value, Below}
 use Rattle.rules.specs.Map.{Map, isnt}
 use Rattle.rules.specs.Forcing.{Grounds, Founded}

@@ -1,8 +1,8 @@
 -- Whether a number is one of 1 to n, as the test and as the fact.
-use Prim.Native.Nat.{ℕ, _≤_, _<_}
+use Prim.Native.Nat.{ℕ}
 use mathlib.Core.Path.{_≡_}
 use mathlib.Core.Logic.{_⊎_, inl, inr, ⊎-elim}
-use mathlib.Core.Bool.{Bool, true, false, not, _&&_}
+use mathlib.Core.Bool.{true, false, not}
 use lib.Dec.{T, leb, leb→le, le→leb, T-not}
 use Rattle.rules.specs.Rule.{Within}
 use Rattle.rules.specs.Map.{inside}

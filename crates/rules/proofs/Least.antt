@@ -1,14 +1,13 @@
 -- The least closed map: there is at most one, and not beside a contradiction. What is asked may be asked at once or one pin after
 -- the other, in any order and with repeats: each closed map above the least one holds what that one holds.
 use Prim.Native.Nat.{ℕ}
-use mathlib.Core.Path.{_≡_, refl, sym, _∙_, subst}
-use mathlib.Core.Logic.{_⊎_, inl, inr, ⊎-elim}
-use mathlib.Core.Bool.{Bool}
+use mathlib.Core.Path.{_≡_, refl, sym, subst}
+use mathlib.Core.Logic.{⊎-elim}
 use mathlib.Core.List.{List, [], _∷_, _++_, List·Memᴰ, List·Memᴰ·head, List·Memᴰ·tail, List·Memᴰ·not-nil, List·Memᴰ·cases-cons, List·Memᴰ·append-cases, Memᴰ·append-left, Memᴰ·append-right}
 use Rattle.rules.specs.Rule.{Rule}
 use Rattle.rules.specs.Map.{Map, Literal, Holding, want, _⊑_}
 use Rattle.rules.specs.Forcing.{Closed, Least, Contradiction, Pinning, none, next, SameSet}
-use Rattle.rules.proofs.Maps.{⊑-antisym, ⊑-trans}
+use Rattle.rules.proofs.Maps.{⊑-antisym}
 
 pub holding-nil : (M : Map) → Holding [] M
 holding-nil M p m = absurd (List·Memᴰ·not-nil m)

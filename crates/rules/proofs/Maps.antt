@@ -1,15 +1,14 @@
 -- Maps by how much they decide: ⊑ is an order on maps, sure grows along it and reach falls, each by a literal's weight where that
 -- literal is decided.
-use Prim.Native.Nat.{ℕ, zero, suc, _+_, _≤_, _<_}
+use Prim.Native.Nat.{ℕ, zero, suc, _+_, _≤_}
 use mathlib.Core.Path.{_≡_, refl, sym, _∙_, subst}
 use mathlib.Core.Logic.{_⊎_, inl, inr, ⊎-elim}
 use mathlib.Core.Bool.{Bool, true, false, not}
-use mathlib.Core.List.{List, List·Memᴰ}
+use mathlib.Core.List.{List·Memᴰ}
 use native.Mathlib.Omega.{arith}
 use native.Mathlib.Nat.{not-suc-le-zero, le-of-suc-le-suc}
 use lib.Dec.{T}
 use Rattle.rules.specs.Rule.{Rule, Weighted, Within, body}
-use Rattle.rules.specs.Stable.{Set, value}
 use Rattle.rules.specs.Map.{Map, IsMap, want, is, isnt, sure, reach, _⊑_}
 use Rattle.rules.proofs.Tests.{eq-T, T-eq, ne-T, T-ne, double}
 use Rattle.rules.proofs.Inside.{within?}

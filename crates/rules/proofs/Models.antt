@@ -1,21 +1,19 @@
 -- Forcing loses no agreeing stable model: the model's total map is closed and holds the compute lists, so the least such map is
 -- below it.
 use Prim.Native.Nat.{ℕ}
-use mathlib.Core.Path.{_≡_, refl, sym, _∙_, subst}
-use mathlib.Core.Logic.{_⊎_, inl, inr, ⊎-elim}
-use mathlib.Core.Bool.{Bool, true, false, not}
-use mathlib.Core.List.{List, [], _∷_, _++_, map, List·Memᴰ, List·Memᴰ·append-cases, Memᴰ·append-left, Memᴰ·append-right}
-use lib.Dec.{T}
-use Rattle.rules.specs.Sum.{has}
-use Rattle.rules.specs.Rule.{Rule, Sheet, Within, Numbered}
-use Rattle.rules.specs.Stable.{Set, outside, Agrees, Model}
-use Rattle.rules.specs.Map.{Map, Literal, Holding, IsMap, want, is, total, _⊑_}
+use mathlib.Core.Path.{_≡_, sym, _∙_, subst}
+use mathlib.Core.Logic.{⊎-elim}
+use mathlib.Core.Bool.{false}
+use mathlib.Core.List.{List, map, List·Memᴰ, List·Memᴰ·append-cases, Memᴰ·append-left, Memᴰ·append-right}
+use Rattle.rules.specs.Rule.{Sheet, Numbered}
+use Rattle.rules.specs.Stable.{Set, Agrees, Model}
+use Rattle.rules.specs.Map.{Map, Literal, Holding, want, is, total, _⊑_}
 use Rattle.rules.specs.Forcing.{Closed, Least, Contradiction, Pinned, computed, inn, out}
-use Rattle.rules.proofs.Tests.{eq-T, T-eq, ne-T, has-mem, mem-has}
+use Rattle.rules.proofs.Tests.{eq-T, ne-T, has-mem, mem-has}
 use Rattle.rules.proofs.Members.{map-mem, mem-map}
 use Rattle.rules.proofs.Maps.{want-apart}
 use Rattle.rules.proofs.Least.{holding-append}
-use Rattle.rules.proofs.Total.{total-in, total-out, stable-closed, stable-within}
+use Rattle.rules.proofs.Total.{total-in, total-out, stable-closed}
 
 module _ {sh : Sheet} (ok : Numbered sh) where
   abbrev n : ℕ

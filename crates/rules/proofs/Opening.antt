@@ -1,26 +1,25 @@
 -- Opening a sheet with pins, computed: pins and compute lists are written on a map of zeros, or two of them clash, and the map is
 -- closed. So for every sheet and pins there is a least closed map or a contradiction.
-use Prim.Native.Nat.{ℕ, zero, suc, _+_, _-_, _≤_, _<_}
-use mathlib.Core.Path.{_≡_, refl, sym, _∙_, subst, ap}
+use Prim.Native.Nat.{ℕ, zero, suc, _+_, _-_, _≤_}
+use mathlib.Core.Path.{_≡_, refl, sym, _∙_, subst}
 use mathlib.Core.Logic.{_⊎_, inl, inr, ⊎-elim}
 use mathlib.Core.Bool.{Bool, true, false, not}
 use mathlib.Core.List.{List, [], _∷_, _++_, map, List·Memᴰ, List·Memᴰ·head, List·Memᴰ·tail, List·Memᴰ·append-cases}
 use native.Mathlib.Omega.{arith}
-use lib.ListN.{length, getD, set, length-set, replicate, length-replicate, getD-replicate}
+use lib.ListN.{length, set, length-set, replicate, length-replicate, getD-replicate}
 use lib.Dec.{T, eqb}
 use Rattle.rules.specs.Sum.{counted, tally}
-use Rattle.rules.specs.Rule.{Rule, Sheet, Within, Numbered}
+use Rattle.rules.specs.Rule.{Sheet, Within, Numbered}
 use Rattle.rules.specs.Map.{Map, Literal, Holding, IsMap, side, want, _⊑_}
 use Rattle.rules.specs.Forcing.{Least, Contradiction, Pinned, computed, inn, out}
-use Rattle.rules.proofs.Tests.{eq-T, T-eq, mem-has, decided}
-use Rattle.rules.proofs.Sum.{tally-mono}
+use Rattle.rules.proofs.Tests.{eq-T, T-eq, mem-has}
 use Rattle.rules.proofs.Lists.{upTo}
 use Rattle.rules.proofs.Members.{map-mem}
 use Rattle.rules.proofs.Inside.{within?}
 use Rattle.rules.proofs.Maps.{sides, want-decided, want-apart}
-use Rattle.rules.proofs.Bytes.{side-at, side-beyond, side-map, written-same, written-above, written-below, written-map}
+use Rattle.rules.proofs.Bytes.{side-at, side-beyond, written-same, written-above, written-below, written-map}
 use Rattle.rules.proofs.Least.{holding-nil, holding-cons, least-same, contradiction-same}
-use Rattle.rules.proofs.Closing.{Ending, closedAt, clash, closing, closing-right, undecided, Right}
+use Rattle.rules.proofs.Closing.{Ending, closedAt, clash, closing, closing-right, Right}
 
 abbrev zeros : ℕ → List ℕ
 zeros n = replicate n 0

@@ -1,18 +1,18 @@
 -- Stable is definition 6 of the paper. A rule gives an atom exactly where the paper's f_r has it: a count of all is the whole
 -- length, and the weighted sum is the paper's. Every f(S) of a closure contains what the rules give from it, so it is above the
 -- smallest such set; and the function that takes S to that smallest set is itself a closure, so the intersection of all is that set.
-use Prim.Native.Nat.{ℕ, suc, _+_, _≤_, _<_}
-use mathlib.Core.Path.{_≡_, refl, sym, _∙_, subst, ap, ap₂}
-use mathlib.Core.Logic.{_⊎_, inl, inr, ⊎-elim, _↔_}
-use mathlib.Core.Bool.{Bool, true, false, not, _&&_, _||_, cond}
+use Prim.Native.Nat.{ℕ, suc, _+_, _≤_}
+use mathlib.Core.Path.{_≡_, refl, subst, ap₂}
+use mathlib.Core.Logic.{⊎-elim}
+use mathlib.Core.Bool.{Bool, true, false, _&&_, cond}
 use mathlib.Core.List.{List, [], _∷_, map, List·Memᴰ}
 use native.Mathlib.Omega.{arith}
 use lib.ListN.{length}
 use lib.Dec.{T, eqb, leb, leb→le, le→leb}
 use Rattle.rules.specs.Sum.{counted, tally, has}
-use Rattle.rules.specs.Rule.{Rule, Weighted, ones, one, body, chooses}
-use Rattle.rules.specs.Stable.{Set, outside, gain, value, Gives, Contains, Below, Stable}
-use Rattle.rules.specs.Paper.{PaperRule, basic, constraint, choice, weight, all, those, sum, size, weightIn, fᵣ, InUnion, Closure, g, PaperStable, asRule}
+use Rattle.rules.specs.Rule.{Rule, Weighted, ones}
+use Rattle.rules.specs.Stable.{Set, outside, gain, value, Gives, Contains, Stable}
+use Rattle.rules.specs.Paper.{PaperRule, basic, constraint, choice, weight, all, those, sum, size, weightIn, fᵣ, InUnion, Closure, PaperStable, asRule}
 use Rattle.rules.proofs.Tests.{and-T, T-and-left, T-and-right, T-or, or-left}
 use Rattle.rules.proofs.Lists.{those-split}
 use Rattle.rules.proofs.Members.{map-mem, mem-map}

@@ -1,23 +1,22 @@
 -- The search for the first model, computed: the lowest undecided atom is tried in, then out, each closed first. Every closed map on
 -- the way decides at least one atom more, so there are no more guesses in a row than undecided atoms.
-use Prim.Native.Nat.{ℕ, zero, suc, _+_, _-_, _≤_, _<_}
+use Prim.Native.Nat.{ℕ, zero, suc, _-_, _≤_, _<_}
 use mathlib.Core.Path.{_≡_, refl, sym, _∙_, subst, ap}
 use mathlib.Core.Logic.{_⊎_, inl, inr, ⊎-elim}
-use mathlib.Core.Bool.{Bool, true, false, not, cond}
-use mathlib.Core.List.{List, [], _∷_, _++_, List·Memᴰ, List·Memᴰ·head, List·Memᴰ·not-nil}
+use mathlib.Core.Bool.{Bool, true, false, cond}
+use mathlib.Core.List.{List, [], _++_, List·Memᴰ·head, List·Memᴰ·not-nil}
 use native.Mathlib.Omega.{arith}
-use native.Mathlib.Nat.{not-suc-le-zero, eq-or-lt-of-le, le-of-suc-le-suc}
+use native.Mathlib.Nat.{not-suc-le-zero, eq-or-lt-of-le}
 use lib.ListN.{length, set, length-set}
-use lib.Dec.{T, eqb, T-not}
-use Rattle.rules.specs.Sum.{tally}
+use lib.Dec.{T, eqb}
 use Rattle.rules.specs.Rule.{Rule, Sheet, Within, Numbered}
-use Rattle.rules.specs.Stable.{Set, outside, Model, FirstOf, First, NoModel}
+use Rattle.rules.specs.Stable.{Set, FirstOf, First, NoModel}
 use Rattle.rules.specs.Map.{Map, Literal, Holding, IsMap, side, want, is, total, _⊑_}
-use Rattle.rules.specs.Forcing.{Closed, Least, Contradiction, Pinned, computed}
+use Rattle.rules.specs.Forcing.{Closed, Least, Pinned, computed}
 use Rattle.rules.specs.Search.{Above, Lowest, Branch, Guess}
-use Rattle.rules.proofs.Tests.{eq-T, T-eq, ne-T, T-ne, decided}
+use Rattle.rules.proofs.Tests.{eq-T, T-eq}
 use Rattle.rules.proofs.Sum.{tally-mono}
-use Rattle.rules.proofs.Lists.{upTo, upTo-within}
+use Rattle.rules.proofs.Lists.{upTo}
 use Rattle.rules.proofs.Maps.{sides, want-decided, ⊑-trans}
 use Rattle.rules.proofs.Bytes.{written-same, written-above, written-below, written-map}
 use Rattle.rules.proofs.Least.{holding-nil, holding-cons, holding-append, holding-up, holding-left, least-same, contradiction-same}

@@ -1,13 +1,13 @@
 -- The weighted sum, once for every list, test and weight: it grows with its test, by at least the weight of an element that the
 -- larger test adds; it does not see the order of its list; and a count of 1 has one element. By induction on the list.
-use Prim.Native.Nat.{ℕ, _+_, _≤_, _<_}
+use Prim.Native.Nat.{ℕ, _+_, _≤_}
 use mathlib.Core.Path.{_≡_, refl, ap, ap₂, sym, _∙_, subst}
 use mathlib.Core.Logic.{_⊎_, inl, inr, ⊎-elim}
-use mathlib.Core.Bool.{Bool, true, false, not, _||_, _&&_}
+use mathlib.Core.Bool.{Bool, true, false, not}
 use mathlib.Core.List.{List, [], _∷_, List·Memᴰ, List·Memᴰ·head, List·Memᴰ·tail, List·Memᴰ·cases-cons, List·Memᴰ·not-nil, List·Permᴰ, List·Permᴰ·nil, List·Permᴰ·cons, List·Permᴰ·swap, List·Permᴰ·trans}
 use native.Mathlib.Omega.{arith}
-use lib.Dec.{T, eqb, eqb→eq, eqb-refl}
-use Rattle.rules.specs.Sum.{counted, tally, has}
+use lib.Dec.{T}
+use Rattle.rules.specs.Sum.{counted, tally}
 
 pub counted-mono : (p q : Bool) (w : ℕ) → (T p → T q) → counted p w ≤ counted q w
 counted-mono true true w f = omega arith

@@ -1,19 +1,19 @@
 -- The in-atoms of a total closed map form a stable model, and the total map of a stable model is closed. On a total map sure and
 -- reach both are the weight of the true literals, so rule 1 says that the set contains what the rules give, and rule 4 that it is
 -- below every set that does; rules 2 and 3 have no undecided literal to speak of.
-use Prim.Native.Nat.{ℕ, _+_, _≤_, _<_}
-use mathlib.Core.Path.{_≡_, refl, sym, _∙_, subst, ap}
+use Prim.Native.Nat.{ℕ, _≤_}
+use mathlib.Core.Path.{_≡_, sym, _∙_, ap}
 use mathlib.Core.Logic.{_⊎_, inl, inr, ⊎-elim}
 use mathlib.Core.Bool.{Bool, true, false, not, _&&_, cond}
 use mathlib.Core.List.{List, List·Memᴰ}
 use native.Mathlib.Omega.{arith}
-use lib.Dec.{T, eqb, leb, T-not, not-T}
+use lib.Dec.{T, T-not}
 use Rattle.rules.specs.Sum.{has}
 use Rattle.rules.specs.Rule.{Rule, Weighted, Within, Fits, body, chooses}
-use Rattle.rules.specs.Stable.{Set, outside, value, Gives, Contains, Stable}
-use Rattle.rules.specs.Map.{Map, IsMap, inside, want, is, isnt, sure, reach, total, _⊑_}
+use Rattle.rules.specs.Stable.{Set, outside, value, Contains, Stable}
+use Rattle.rules.specs.Map.{Map, IsMap, inside, want, is, isnt, sure, total}
 use Rattle.rules.specs.Forcing.{Closed, Grounds, Founded}
-use Rattle.rules.proofs.Tests.{eq-T, T-eq, ne-T, T-ne, and-T, T-and-left, T-and-right, T-true, T-false, decided, true-T}
+use Rattle.rules.proofs.Tests.{eq-T, T-eq, ne-T, T-ne, and-T, T-and-left, T-and-right, T-true, T-false, decided}
 use Rattle.rules.proofs.Inside.{inside-true, inside-false, within-inside, inside-within, within?}
 use Rattle.rules.proofs.Value.{by, value-mono}
 use Rattle.rules.proofs.Maps.{sides, decided-within, want-apart, want-decided}

@@ -1,12 +1,12 @@
 -- The weight of a body grows with the tests by which its literals count: both lists' sums do.
-use Prim.Native.Nat.{ℕ, _+_, _≤_}
+use Prim.Native.Nat.{_+_, _≤_}
 use mathlib.Core.Path.{_≡_, ap₂}
 use mathlib.Core.Bool.{Bool, true, false, not}
-use mathlib.Core.List.{List, List·Memᴰ}
+use mathlib.Core.List.{List·Memᴰ}
 use native.Mathlib.Omega.{arith}
 use lib.Dec.{T}
 use Rattle.rules.specs.Rule.{Rule, Weighted, body}
-use Rattle.rules.specs.Stable.{Set, value, gain}
+use Rattle.rules.specs.Stable.{Set, value}
 use Rattle.rules.proofs.Sum.{tally-mono, tally-more, tally-same}
 
 -- the test for the literals of a sign

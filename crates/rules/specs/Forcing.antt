@@ -15,7 +15,7 @@ use lib.Dec.{T, leb}
 use Rattle.rules.specs.Sum.{tally, has}
 use Rattle.rules.specs.Rule.{Rule, Weighted, Sheet, Within, body, chooses}
 use Rattle.rules.specs.Stable.{Set, value}
-use Rattle.rules.specs.Map.{Map, Literal, IsMap, Holding, want, isnt, sure, reach, _⊑_}
+use Rattle.rules.specs.Map.{Map, Literal, IsMap, Holding, isnt, sure, reach, _⊑_}
 
 -- has the rule this head, and can its body still hold?
 abbrev pub supports : ℕ → Map → Rule → Bool

@@ -1,14 +1,14 @@
 -- "A map has one byte for each atom: 0 undecided, 1 in, 2 out."
 -- "For a rule and a map, sure is the weight of positive atoms in plus negated atoms out; reach is the weight of positive atoms
 -- not out plus negated atoms not in." "Margin: reach less need for one rule on one map."
-use Prim.Native.Nat.{ℕ, _+_, _-_, _≤_}
+use Prim.Native.Nat.{ℕ, _-_, _≤_}
 use mathlib.Core.Path.{_≡_}
 use mathlib.Core.Bool.{Bool, true, false, not, _&&_, cond}
-use mathlib.Core.List.{List, [], _∷_, List·Memᴰ}
+use mathlib.Core.List.{List, List·Memᴰ}
 use lib.ListN.{getD}
-use lib.Dec.{T, eqb, leb}
+use lib.Dec.{eqb, leb}
 use lib.IntN.{ℤ, pos, _-ℤ_}
-use Rattle.rules.specs.Rule.{Rule, Sheet, Within}
+use Rattle.rules.specs.Rule.{Rule, Within}
 use Rattle.rules.specs.Stable.{Set, value}
 
 infix 50 _⊑_

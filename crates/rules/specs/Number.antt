@@ -3,8 +3,6 @@
 use Prim.Native.Nat.{ℕ}
 use mathlib.Core.Bool.{Bool, true, false}
 use Rattle.rules.specs.Map.{inside}
-use Rattle.rules.specs.declared.Atom.{Atom}
-use Rattle.rules.specs.declared.RuleNo.{RuleNo}
 use Rattle.rules.specs.declared.AtomOr.{AtomOr}
 use Rattle.rules.specs.declared.AtomOr.the-variants.{Is, Not}
 use Rattle.rules.specs.declared.RuleOr.{RuleOr}

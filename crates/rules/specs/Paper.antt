@@ -2,10 +2,9 @@
 -- reader who knows the paper: the functions f_r of the four kinds of rule, closures, and the stable models.
 -- A set {a1, .., an} of the paper is a list that has each element once.
 use Prim.Native.Nat.{ℕ, _+_}
-use mathlib.Core.Path.{_≡_}
 use mathlib.Core.Logic.{_↔_}
-use mathlib.Core.Bool.{Bool, true, false, _&&_, cond}
-use mathlib.Core.List.{List, [], _∷_, map, List·Memᴰ}
+use mathlib.Core.Bool.{Bool, true, _&&_, cond}
+use mathlib.Core.List.{List, [], _∷_, List·Memᴰ}
 use lib.ListN.{length}
 use lib.Dec.{T, eqb, leb}
 use Rattle.rules.specs.Sum.{has}

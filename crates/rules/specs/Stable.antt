@@ -3,7 +3,7 @@
 -- S is stable exactly when it equals the smallest C that contains everything the rules give from it."
 use Prim.Native.Nat.{ℕ, _+_, _≤_, _<_}
 use mathlib.Core.Path.{_≡_}
-use mathlib.Core.Bool.{Bool, true, false, not}
+use mathlib.Core.Bool.{Bool, not}
 use mathlib.Core.List.{List, List·Memᴰ}
 use lib.Dec.{T}
 use Rattle.rules.specs.Sum.{tally, has}

@@ -1,15 +1,14 @@
 -- What the search's steps say of models: a closed map that decides every atom is its own first model; the first model of a closed
 -- guess is the first that has the guessed literal; and the first with the lowest undecided atom in comes before those with it out.
-use Prim.Native.Nat.{ℕ, _+_, _-_, _≤_, _<_}
-use mathlib.Core.Path.{_≡_, sym, _∙_, ap}
+use Prim.Native.Nat.{ℕ, _+_, _-_}
+use mathlib.Core.Path.{_≡_, sym, _∙_}
 use mathlib.Core.Bool.{Bool, true, false, true≢false, false≢true}
 use mathlib.Core.List.{List}
 use native.Mathlib.Omega.{arith}
-use lib.ListN.{getD}
-use Rattle.rules.specs.Rule.{Sheet, Within, Numbered}
-use Rattle.rules.specs.Map.{Holding, side}
+use Rattle.rules.specs.Rule.{Within}
+use Rattle.rules.specs.Map.{side}
 use Rattle.rules.specs.Forcing.{Contradiction, computed}
-use Rattle.rules.specs.Search.{Above, Lowest, Branch, Guess}
+use Rattle.rules.specs.Search.{Lowest, Guess}
 use Rattle.rules.proofs.Bytes.{side-at, side-index, index-within}
 use Rattle.rules.proofs.Least.{holding-up}
 use Rattle.rules.proofs.First.{leaf, try-in, try-out, try-none, branch-first, branch-none, branch-clash}

@@ -2,24 +2,21 @@
 -- guessed literal, and a closed map above it has fewer undecided atoms, since the guessed one was undecided.
 use Prim.Native.Nat.{ℕ, zero, suc, _+_, _-_, _≤_, _<_}
 use mathlib.Core.Path.{_≡_, refl, sym, _∙_, ap, subst}
-use mathlib.Core.Logic.{_⊎_, inl, inr, ⊎-elim}
+use mathlib.Core.Logic.{_⊎_, inl, inr}
 use mathlib.Core.Bool.{Bool, true, false}
 use mathlib.Core.List.{List, [], _∷_, List·Memᴰ·head}
 use native.Mathlib.Omega.{arith}
-use lib.ListN.{length, getD, take, set, length-set}
-use lib.Dec.{T, eqb}
-use Rattle.rules.specs.Sum.{counted, tally}
-use Rattle.rules.specs.Rule.{Within}
-use Rattle.rules.specs.Map.{Map, Holding, side, want, _⊑_}
-use Rattle.rules.specs.Forcing.{Least, Contradiction}
+use lib.ListN.{length, getD, take, set}
+use lib.Dec.{eqb}
+use Rattle.rules.specs.Sum.{tally}
+use Rattle.rules.specs.Map.{Map, side, want, _⊑_}
 use Rattle.rules.specs.Search.{Guess}
 use Rattle.rules.proofs.Tests.{eq-T, T-eq}
 use Rattle.rules.proofs.Sum.{counted-mono}
 use Rattle.rules.proofs.Maps.{sides, want-decided, ⊑-trans}
 use Rattle.rules.proofs.Bytes.{side-index, written-same, written-above, written-below}
 use Rattle.rules.proofs.Least.{holding-nil, holding-cons, least-same, contradiction-same}
-use Rattle.table.specs.Rows.{rulesAt}
-use Rattle.weigh.specs.Step.{Proper, Kept, undecided}
+use Rattle.weigh.specs.Step.{Proper, undecided}
 use Rattle.forcing.specs.Close.{ClosesMap}
 use Rattle.forcing.specs.declared.Closing.{Closing}
 use Rattle.forcing.specs.declared.Closing.the-variants.{NoneHolds, ClosedWith}

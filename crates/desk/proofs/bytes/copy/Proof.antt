@@ -1,7 +1,6 @@
 -- `copy` meets its contract: the bytes that the loop has passed are copied, and the others as they were.
 use Prim.Native.Nat.{_-_}
 use native.Mathlib.Omega.{arith}
-use borrow.Author.Needs.{needs}
 use Rattle.desk.proofs.Maps.{Copying, copying-begin, copying-next, copying-end}
 use Rattle.desk.proofs.bytes.copy.Statement.{statement}
 use Rattle.desk.proofs.bytes.copy.Tie as tie

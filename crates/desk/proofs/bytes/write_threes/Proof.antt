@@ -1,6 +1,5 @@
 -- `write_threes` meets its contract: the bytes that the loop has passed are 3, and the others as they were.
 use Prim.Native.Nat.{_-_}
-use mathlib.Core.List.{List}
 use native.Mathlib.Omega.{arith}
 use lib.ListN.{replicate}
 use Rattle.desk.proofs.Maps.{Copying, copying-begin, threes-next, threes-end}

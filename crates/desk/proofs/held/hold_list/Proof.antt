@@ -1,6 +1,6 @@
 -- `hold_list` meets its contract. The loop's invariant: the maps above the present one that hold what is left of the list are those
 -- above the first that hold all of it.
-use Prim.Native.Nat.{ℕ, _≤_, _-_}
+use Prim.Native.Nat.{_≤_, _-_}
 use mathlib.Core.Path.{sym, _∙_}
 use native.Mathlib.Omega.{arith}
 use native.Mathlib.Nat.{sub-zero}

@@ -1,5 +1,4 @@
 -- `hold_lists` meets its contract: one list is held and then the other.
-use mathlib.Core.Path.{sym}
 use Rattle.sheet.specs.Meaning.{sheetMeant}
 use Rattle.desk.proofs.Works.{takes-both, takes-none, listed-in, listed-out}
 use borrow.Author.Needs.{needs}

@@ -1,5 +1,5 @@
 -- `forcing::pass::place`: each branch is a clause of the definition.
-use mathlib.Core.Path.{_≡_, refl, sym, ap}
+use mathlib.Core.Path.{sym, ap}
 use mathlib.Core.Bool.{Bool}
 use native.Mathlib.Omega.{arith}
 use Rattle.forcing.specs.Pass.{placed}
