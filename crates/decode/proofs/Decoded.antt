@@ -13,12 +13,12 @@ use Rattle.table.specs.Rows.{rulesAt, Row}
 use Rattle.sheet.specs.Meaning.{sheetMeant}
 use Rattle.sheet.specs.Encode.{Proper, Propers, noRules, andRule}
 use Rattle.sheet.specs.declared.sheet.Outline.{Outline}
+use Rattle.sheet.proofs.Limits.{proper-sound}
 use Rattle.sheet.proofs.sheet.Ran.{SheetRan, sheet-ran}
 use Rattle.decode.specs.Rows.{firstPair, withRules, Room, RulesAsk}
 use Rattle.decode.specs.Decode.{tableWords, Ready, Decoded}
 use Rattle.decode.proofs.rows.Laws.{rules-long}
 use Rattle.decode.proofs.rows.Written.{Stands, each-stands, rules-written}
-use Rattle.decode.proofs.rows.Meant.{proper-sound}
 use Rattle.decode.proofs.Laid.{written-row}
 
 each-proper : {n : ℕ} {rs : List Rule} → Propers n rs → (r : Rule) → List·Memᴰ r rs → Proper n r

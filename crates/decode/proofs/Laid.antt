@@ -17,9 +17,10 @@ use Rattle.table.specs.Rows.{from, to, Row}
 use Rattle.numbers.specs.Encode.{Linked, more, Above, Rising}
 use Rattle.numbers.proofs.lists.Whole.{rising-few}
 use Rattle.sheet.specs.Encode.{atomsOf, weightsIn, Weighs, Light}
+use Rattle.sheet.proofs.Fits.{ones-rise}
+use Rattle.sheet.proofs.Limits.{Sound, ones-light}
 use Rattle.decode.specs.Rows.{positivesFrom, negativesFrom, endFrom}
 use Rattle.decode.proofs.rows.Written.{Written}
-use Rattle.decode.proofs.rows.Meant.{Sound, ones-rise, ones-light}
 
 module _ (c : List ℕ) where
   -- what holds of each number of a list that is linked so, of the pairs that have those numbers

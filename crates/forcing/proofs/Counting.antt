@@ -15,10 +15,11 @@ use Rattle.rules.specs.Rule.{Within}
 use Rattle.rules.specs.Map.{Map, side, is, reach}
 use Rattle.rules.specs.Forcing.{supports, supporters}
 use Rattle.rules.proofs.Tests.{eq-T, T-true, T-false, T-same, and-T, T-and-left, T-and-right, decided, T-eq, T-ne}
+use Rattle.rules.proofs.Sum.{counted-most}
 use Rattle.rules.proofs.Forced.{supports-head, supports-reach}
 use Rattle.table.specs.Words.{atomAt, atoms}
 use Rattle.table.specs.Rows.{headsAt, positivesAt, needAt, ruleAt, rulesFrom, rulesAt, Row}
-use Rattle.table.proofs.Words.{Listed, counted-most, atoms-listed, has-done, has-next}
+use Rattle.table.proofs.Words.{Listed, atoms-listed, has-done, has-next}
 use Rattle.table.proofs.Rows.{heads-apart, rules-done, rules-next}
 use Rattle.forcing.specs.Support.{Counts, Small, Adds, Counting, Heading, Stirs}
 use Rattle.rules.proofs.Bytes.{written-same, written-other}

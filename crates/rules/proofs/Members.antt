@@ -1,7 +1,10 @@
--- Membership through map, ++ and a change of order.
+-- Membership by index, through map, ++ and a change of order.
+use Prim.Native.Nat.{ℕ, zero, suc, _<_}
 use mathlib.Core.Path.{_≡_, refl, _∙_, ap}
 use mathlib.Core.Logic.{_⊎_, inl, inr}
 use mathlib.Core.List.{List, [], _∷_, map, List·Memᴰ, List·Memᴰ·head, List·Memᴰ·tail, List·Memᴰ·cases-cons, List·Memᴰ·not-nil, List·Permᴰ, List·Permᴰ·nil, List·Permᴰ·cons, List·Permᴰ·swap, List·Permᴰ·trans}
+use native.Mathlib.Omega.{arith}
+use lib.ListN.{length, getD}
 
 module _ {ℓ} {A B : Type ℓ} (f : A → B) where
   pub map-mem : (xs : List A) {y : B} → List·Memᴰ y (map f xs) → (x : A) × List·Memᴰ x xs × (y ≡ f x)
@@ -19,6 +22,11 @@ module _ {ℓ} {A B : Type ℓ} (f : A → B) where
   mem-map (List·Memᴰ·tail m) = List·Memᴰ·tail (mem-map m)
 
 module _ {ℓ} {A : Type ℓ} where
+  pub index-mem : (xs : List A) (i : ℕ) (other : A) → i < length xs → List·Memᴰ (getD xs i other) xs
+  index-mem [] i other h = absurd (omega arith)
+  index-mem (x ∷ xs) zero other h = List·Memᴰ·head refl
+  index-mem (x ∷ xs) (suc i) other h = List·Memᴰ·tail (index-mem xs i other (omega arith))
+
   pub perm-mem : {x : A} {xs ys : List A} → List·Permᴰ xs ys → List·Memᴰ x xs → List·Memᴰ x ys
   perm-mem List·Permᴰ·nil m = m
   perm-mem {x} (List·Permᴰ·cons {a = a} {b = b} {l₁ = l₁} {l₂ = l₂} e d) m = step (perm-mem d) (List·Memᴰ·cases-cons m)

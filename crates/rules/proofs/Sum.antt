@@ -1,13 +1,20 @@
 -- The weighted sum, once for every list, test and weight: it grows with its test, by at least the weight of an element that the
--- larger test adds; it does not see the order of its list; and a count of 1 has one element. By induction on the list.
-use Prim.Native.Nat.{ℕ, _+_, _≤_}
+-- larger test adds; it is at most the heaviest weight for each element; it does not see the order of its list; and a count of 1 has one
+-- element. By induction on the list.
+use Prim.Native.Nat.{ℕ, _+_, _*_, _≤_}
 use mathlib.Core.Path.{_≡_, refl, ap, ap₂, sym, _∙_, subst}
 use mathlib.Core.Logic.{_⊎_, inl, inr, ⊎-elim}
 use mathlib.Core.Bool.{Bool, true, false, not}
 use mathlib.Core.List.{List, [], _∷_, List·Memᴰ, List·Memᴰ·head, List·Memᴰ·tail, List·Memᴰ·cases-cons, List·Memᴰ·not-nil, List·Permᴰ, List·Permᴰ·nil, List·Permᴰ·cons, List·Permᴰ·swap, List·Permᴰ·trans}
 use native.Mathlib.Omega.{arith}
+use lib.ListN.{length}
 use lib.Dec.{T}
 use Rattle.rules.specs.Sum.{counted, tally}
+
+-- what a weight counts for is at most the weight
+pub counted-most : (b : Bool) (w : ℕ) → counted b w ≤ w
+counted-most true w = omega arith
+counted-most false w = omega arith
 
 pub counted-mono : (p q : Bool) (w : ℕ) → (T p → T q) → counted p w ≤ counted q w
 counted-mono true true w f = omega arith
@@ -30,6 +37,16 @@ module _ {ℓ} {A : Type ℓ} where
   tally-mono p q w (x ∷ xs) f =
       omega
       (arith, counted-mono (p x) (q x) (w x) (f x (List·Memᴰ·head refl)), tally-mono p q w xs (λ y m. f y (List·Memᴰ·tail m)))
+
+  -- no sum passes the heaviest weight for each element
+  pub tally-most :
+      (most : ℕ) (p : A → Bool) (w : A → ℕ) (xs : List A) → ((x : A) → List·Memᴰ x xs → w x ≤ most)
+      → tally p w xs ≤ length xs * most
+  unfolding tally
+  tally-most most p w [] f = omega arith
+  tally-most most p w (x ∷ xs) f =
+      omega
+      (arith, counted-most (p x) (w x), f x (List·Memᴰ·head refl), tally-most most p w xs (λ y m. f y (List·Memᴰ·tail m)))
 
   -- one element more adds at least its weight
   pub tally-more :

@@ -10,13 +10,19 @@ use Rattle.numbers.specs.Encode.{Linked, none, more, Above, Rising}
 use Rattle.sheet.specs.Encode.{atomsOf, Proper, isBasic, isConstraint, isChoice, isWeight, Propers, noRules, andRule}
 use Rattle.sheet.proofs.rule.Apart.{ones-atoms}
 
-pub rising-within : {n before a : ℕ} {xs : List ℕ} → Linked (Above n) before xs → List·Memᴰ a xs → Within n a
-rising-within none m = absurd (List·Memᴰ·not-nil m)
-rising-within {n} {a = a} (more {x = x} {xs = xs} h l) m =
+-- what each link says of its number, of each number of the list
+pub linked-each :
+    {Q : ℕ → ℕ → Type 0} (P : ℕ → Type 0) → ((before x : ℕ) → Q before x → P x) → {before a : ℕ} {xs : List ℕ} → Linked Q before xs
+    → List·Memᴰ a xs → P a
+linked-each P says none m = absurd (List·Memᴰ·not-nil m)
+linked-each P says {a = a} (more {before = before} {x = x} {xs = xs} q l) m =
     ⊎-elim
-    (λ (e : a ≡ x). subst (λ (y : ℕ). Within n y) (sym e) (h .within))
-    (λ (t : List·Memᴰ a xs). rising-within l t)
+    (λ (e : a ≡ x). subst P (sym e) (says before x q))
+    (λ (t : List·Memᴰ a xs). linked-each P says l t)
     (List·Memᴰ·cases-cons m)
+
+pub rising-within : {n before a : ℕ} {xs : List ℕ} → Linked (Above n) before xs → List·Memᴰ a xs → Within n a
+rising-within {n} = linked-each (Within n) (λ before x q. q .within)
 
 mem-atom : {l : Weighted} {ls : List Weighted} → List·Memᴰ l ls → List·Memᴰ (l .atom) (atomsOf ls)
 mem-atom (List·Memᴰ·head e) = List·Memᴰ·head (ap (λ (l : Weighted). l .atom) e)
@@ -31,8 +37,8 @@ heads-within n r (isConstraint h k xs ys e w b x y) a m = single w (subst (λ (t
 heads-within n r (isChoice hs xs ys e o w x y) a m = rising-within w (subst (λ (t : Rule). List·Memᴰ a (t .heads)) e m)
 heads-within n r (isWeight h k xs ys e w b x y v u) a m = single w (subst (λ (t : Rule). List·Memᴰ a (t .heads)) e m)
 
-rising-ones : (n : ℕ) (xs : List ℕ) → Rising n xs → Rising n (atomsOf (ones xs))
-rising-ones n xs h = subst (λ (ys : List ℕ). Rising n ys) (sym (ones-atoms xs)) h
+pub ones-rise : {n : ℕ} {xs : List ℕ} → Rising n xs → Rising n (atomsOf (ones xs))
+ones-rise {n} {xs} h = subst (λ (ys : List ℕ). Rising n ys) (sym (ones-atoms xs)) h
 
 -- the atoms of either sign of a body rise
 both : (n : ℕ) (r t : Rule) → r ≡ t → Rising n (atomsOf (t .pos)) → Rising n (atomsOf (t .neg)) → (s : Bool) → Rising n (atomsOf (body r s))
@@ -40,9 +46,9 @@ both n r t e x y true = subst (λ (q : Rule). Rising n (atomsOf (q .pos))) (sym 
 both n r t e x y false = subst (λ (q : Rule). Rising n (atomsOf (q .neg))) (sym e) y
 
 pub body-rises : (n : ℕ) (r : Rule) → Proper n r → (s : Bool) → Rising n (atomsOf (body r s))
-body-rises n r (isBasic h xs ys e w x y) = both n r _ e (rising-ones n xs x) (rising-ones n ys y)
-body-rises n r (isConstraint h k xs ys e w b x y) = both n r _ e (rising-ones n xs x) (rising-ones n ys y)
-body-rises n r (isChoice hs xs ys e o w x y) = both n r _ e (rising-ones n xs x) (rising-ones n ys y)
+body-rises n r (isBasic h xs ys e w x y) = both n r _ e (ones-rise x) (ones-rise y)
+body-rises n r (isConstraint h k xs ys e w b x y) = both n r _ e (ones-rise x) (ones-rise y)
+body-rises n r (isChoice hs xs ys e o w x y) = both n r _ e (ones-rise x) (ones-rise y)
 body-rises n r (isWeight h k xs ys e w b x y v u) = both n r _ e x y
 
 pub each-proper : {n : ℕ} {r : Rule} {rs : List Rule} → Propers n rs → List·Memᴰ r rs → Proper n r

@@ -2,7 +2,7 @@
 -- many pairs are left.
 use Prim.Native.Nat.{ℕ, zero, suc, _+_, _*_, _-_, _≤_, _<_}
 use mathlib.Core.Path.{_≡_, sym, _∙_, ap, subst}
-use mathlib.Core.Bool.{Bool, true, false, _||_}
+use mathlib.Core.Bool.{false, _||_}
 use mathlib.Core.List.{List, [], _∷_, map, List·Memᴰ, List·Memᴰ·head, List·Memᴰ·tail, List·Memᴰ·not-nil, List·Memᴰ·cases-cons}
 use mathlib.Core.Logic.{⊎-elim}
 use native.Mathlib.Nat.{eq-or-lt-of-le, le-trans, mul-le-mul-right}
@@ -14,6 +14,7 @@ use Rattle.rules.specs.Sum.{tally, counted, has}
 use Rattle.rules.specs.Rule.{Weighted}
 use Rattle.rules.specs.Stable.{Set, gain}
 use Rattle.rules.proofs.Tests.{T-or, or-left, or-right}
+use Rattle.rules.proofs.Sum.{counted-most}
 use Rattle.table.specs.Words.{atomAt, weightAt, pairAt, run, seg, atomOf, atoms, Seg}
 
 pub seg-done : (c : List ℕ) (j to : ℕ) → to ≤ j → seg c j to ≡ []
@@ -121,11 +122,6 @@ pub gain-next :
     → gain p (seg c j to) ≡ counted (p (atomAt c j)) (weightAt c j) + gain p (seg c (j + 1) to)
 unfolding tally
 gain-next p c j to h = ap (gain p) (seg-next c j to h)
-
--- what a weight counts for is at most the weight
-pub counted-most : (b : Bool) (w : ℕ) → counted b w ≤ w
-counted-most true w = omega arith
-counted-most false w = omega arith
 
 module _ (c : List ℕ) (n : ℕ) (p : Set) where
   light-run : (k j : ℕ) → ((i : ℕ) → j ≤ i → i < j + k → weightAt c i ≤ weightMost) → gain p (run c k j) ≤ k * weightMost

@@ -6,14 +6,16 @@ use mathlib.Core.Bool.{Bool}
 use mathlib.Core.Logic.{_⊎_, inl, inr, ⊎-elim}
 use mathlib.Core.List.{List, [], _∷_}
 use native.Mathlib.Omega.{arith}
+use native.Mathlib.Nat.{min-le-left}
 use borrow.Author.Tests.{eq-eqb, ne-eqb}
 use lib.Dec.{eqb}
-use lib.ListN.{length, getD, take, set, length-set, replicate, length-replicate, getD-replicate}
+use lib.ListN.{length, getD, take, set, length-set, length-take, replicate, length-replicate, getD-replicate}
 use lib.Seq.{getD-set-same, getD-set-other}
 use Rattle.rules.specs.Sum.{counted, tally}
 use Rattle.rules.specs.Rule.{Within}
 use Rattle.rules.specs.Map.{IsMap, side}
 use Rattle.rules.proofs.Tests.{decided, T-eq, T-ne}
+use Rattle.rules.proofs.Sum.{tally-most}
 use Rattle.rules.proofs.Inside.{within?}
 use Rattle.rules.proofs.Bytes.{side-at, side-beyond, side-map}
 use Rattle.weigh.specs.Step.{Proper, undecided}
@@ -59,6 +61,17 @@ pub fewer-put :
     → undecided n (set m (a - 1) v) < undecided n m
 unfolding undecided zeros
 fewer-put n m a v w h e f = zero-less v f n (a - 1) m (omega arith) (omega arith) (sym (side-at n m a w) ∙ e)
+
+-- no more atoms are undecided than there are
+pub undecided-few : (n : ℕ) (m : List ℕ) → undecided n m ≤ n
+unfolding undecided
+undecided-few n m =
+    omega (
+      arith,
+      tally-most 1 (λ (b : ℕ). eqb b 0) (λ _. 1) (take n m) (λ b i. omega arith),
+      length-take n m,
+      min-le-left n (length m),
+    )
 
 -- a list of zeros is a map in which every atom is undecided
 module _ (k n : ℕ) (h : n ≤ k) where

@@ -1,25 +1,19 @@
--- What a rule that was read has within limits: its lists rise within n and its weights are light, by its kind; so its head and its need
--- are numbers of a sheet, and a weight rule has a weight for each literal.
-use Prim.Native.Nat.{ℕ, _+_, _≤_}
-use mathlib.Core.Path.{_≡_, refl, sym, _∙_, ap, subst}
-use mathlib.Core.Bool.{not}
-use mathlib.Core.List.{List, [], _∷_}
+-- What a rule that was read has within limits: its head and its need are numbers of a sheet, since its lists rise within n; and a weight
+-- rule has a weight for each literal.
+use Prim.Native.Nat.{ℕ, _≤_}
+use mathlib.Core.Path.{_≡_, sym, _∙_, ap, subst}
+use mathlib.Core.List.{List}
 use native.Mathlib.Omega.{arith}
-use lib.ListN.{length}
-use lib.Dec.{T}
-use Rattle.rules.specs.Limits.{atomsMost, weightMost, numberMost}
-use Rattle.rules.specs.Rule.{Rule, Within, chooses, ones}
+use Rattle.rules.specs.Limits.{atomsMost, numberMost}
 use Rattle.numbers.specs.Number.{numberAt}
 use Rattle.numbers.specs.Lists.{listAt}
-use Rattle.numbers.specs.Encode.{Linked, none, more, Rising}
+use Rattle.numbers.specs.Encode.{more, Rising}
 use Rattle.numbers.specs.declared.Part.{Part}
 use Rattle.numbers.proofs.Answer.{from-read}
-use Rattle.numbers.proofs.lists.Whole.{rising-few}
 use Rattle.sheet.specs.Body.{bodyAt, weightsDue}
 use Rattle.sheet.specs.Rule.{basicAt, boundedAt, choiceAt, bounded, ruleAt}
 use Rattle.sheet.specs.Items.{headsOf}
 use Rattle.sheet.specs.Meaning.{ruleMeant}
-use Rattle.sheet.specs.Encode.{atomsOf, weightsIn, Weighs, Light, Proper, isBasic, isConstraint, isChoice, isWeight}
 use Rattle.sheet.specs.declared.rule.Kind.{Kind}
 use Rattle.sheet.specs.declared.rule.Kind.the-variants.{Basic, Constraint, Choice, Weight}
 use Rattle.sheet.specs.declared.rule.Rule.{Rule as ReadRule}
@@ -27,74 +21,11 @@ use Rattle.sheet.specs.declared.rule.RuleRead.the-variants.{Got as GotRule, Ref
 use Rattle.sheet.proofs.body.Ran.{body-ran, not-rule}
 use Rattle.sheet.proofs.rule.Ran.{Cases, basicCase, boundedCase, choiceCase, cases, head-ran}
 use Rattle.sheet.proofs.rule.Means.{rule-ran}
+use Rattle.sheet.proofs.Limits.{proper-sound}
 use Rattle.decode.specs.Rows.{headNumber, Weights, Meant}
-use Rattle.decode.proofs.rows.Written.{atoms-ones}
 use Rattle.decode.proofs.rows.Rule.{parts}
 
--- one thing of every kind of rule: its lists, its weights, its need, and its one head where it is no choice rule
-pub record Sound (n : ℕ) (m : Rule) : Type 0 where
-  pub heads : Rising n (m .heads)
-  pub pos : Rising n (atomsOf (m .pos))
-  pub neg : Rising n (atomsOf (m .neg))
-  pub posLight : Light (weightsIn (m .pos))
-  pub negLight : Light (weightsIn (m .neg))
-  pub need : m .need ≤ numberMost
-  pub single : T (not (chooses (m .kind))) → length (m .heads) ≡ 1
-
-pub ones-light : (before : ℕ) (xs : List ℕ) → Linked Weighs before (weightsIn (ones xs))
-unfolding weightMost
-ones-light before [] = none
-ones-light before (x ∷ xs) = let w : Weighs before 1 = record { most = omega arith } in more w (ones-light 1 xs)
-
-pub ones-rise : {n : ℕ} {xs : List ℕ} → Rising n xs → Rising n (atomsOf (ones xs))
-ones-rise {n} {xs} h = subst (λ (ys : List ℕ). Rising n ys) (sym (atoms-ones xs)) h
-
-only : {n h : ℕ} → Within n h → Rising n (h ∷ [])
-only w = more (record { within = w; above = w .low }) none
-
 module _ (n : ℕ) (fewAtoms : n ≤ atomsMost) where
-  two-lists : (xs ys : List ℕ) → Rising n xs → Rising n ys → length xs + length ys ≤ numberMost
-  unfolding atomsMost numberMost
-  two-lists xs ys h k = omega (arith, rising-few n h (omega arith), rising-few n k (omega arith))
-
-  pub proper-sound : (m : Rule) → Proper n m → Sound n m
-  proper-sound m (isBasic h xs ys e w x y) =
-      subst (Sound n) (sym e)
-      (record {
-        heads = only w;
-        pos = ones-rise x;
-        neg = ones-rise y;
-        posLight = ones-light 0 xs;
-        negLight = ones-light 0 ys;
-        need = two-lists xs ys x y;
-        single = λ t. refl;
-      })
-  proper-sound m (isConstraint h k xs ys e w b x y) =
-      subst (Sound n) (sym e)
-      (record {
-        heads = only w;
-        pos = ones-rise x;
-        neg = ones-rise y;
-        posLight = ones-light 0 xs;
-        negLight = ones-light 0 ys;
-        need = b;
-        single = λ t. refl;
-      })
-  proper-sound m (isChoice hs xs ys e l h x y) =
-      subst (Sound n) (sym e)
-      (record {
-        heads = h;
-        pos = ones-rise x;
-        neg = ones-rise y;
-        posLight = ones-light 0 xs;
-        negLight = ones-light 0 ys;
-        need = two-lists xs ys x y;
-        single = λ t. absurd t;
-      })
-  proper-sound m (isWeight h k xs ys e w b x y u v) =
-      subst (Sound n) (sym e)
-      (record { heads = only w; pos = x; neg = y; posLight = u; negLight = v; need = b; single = λ t. refl })
-
   head-most : (s : List ℕ) (kind : Kind) → Rising n (headsOf s kind) → headNumber kind ≤ numberMost
   unfolding atomsMost numberMost
   head-most s (Basic head) (more a l) = omega (arith, a .within .high)
@@ -132,7 +63,7 @@ module _ (n : ℕ) (fewAtoms : n ≤ atomsMost) where
   unfolding ruleMeant
   rule-meant s at r e =
       let ran = rule-ran s n at r e in
-      let sound = proper-sound (ruleMeant s r) (ran .proper) in
+      let sound = proper-sound n fewAtoms (ruleMeant s r) (ran .proper) in
       let weights = rule-weights s at r e in
       record {
         head =

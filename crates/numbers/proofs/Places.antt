@@ -1,0 +1,106 @@
+-- A reader that starts within the bytes refuses at a place within them, and what it gets ends within them: it looks at a byte only where
+-- there is one, and it refuses at the place where it started or at the bytes' length.
+use Prim.Native.Nat.{ℕ, zero, suc, _+_, _≤_}
+use mathlib.Core.Path.{_≡_, refl}
+use mathlib.Core.Bool.{Bool, true, false, _&&_}
+use mathlib.Core.List.{List}
+use native.Mathlib.Omega.{arith}
+use lib.ListN.{length, getD}
+use lib.Dec.{ltb, leb, eqb}
+use borrow.Author.Tests.{ltb-true}
+use Rattle.rules.specs.Number.{atomOf}
+use Rattle.rules.specs.declared.Atom.{Atom}
+use Rattle.rules.specs.declared.AtomOr.{AtomOr}
+use Rattle.rules.specs.declared.AtomOr.the-variants.{Is, Not}
+use Rattle.numbers.specs.Answer.{refusal, pick, readThen, atomThen}
+use Rattle.numbers.specs.Number.{groupsFrom, numberAt, withinAt}
+use Rattle.numbers.specs.Lists.{atomAt, upTo, run, listAt}
+use Rattle.numbers.specs.declared.Refusal.{Refusal}
+use Rattle.numbers.specs.declared.Part.{Part}
+use Rattle.numbers.specs.declared.Read.{Read}
+use Rattle.numbers.specs.declared.Read.the-variants.{Got, Refused}
+
+-- a refusal of a sheet, at a place up to the last
+pub record Placed (last : ℕ) (why : Refusal) : Type 0 where
+  pub number : why .number ≤ 9
+  pub place : why .place ≤ last
+
+pub placed : {last : ℕ} (number place : ℕ) → number ≤ 9 → place ≤ last → Placed last (refusal number place)
+placed number place h l = record { number = h; place = l }
+
+-- an answer of a reader that stays within the bytes
+pub data Tame (s : List ℕ) : Read → Type 0 where
+  gets : (p : Part) → p .next ≤ length s → Tame s (Got p)
+  refuses : (why : Refusal) → Placed (length s) why → Tame s (Refused why)
+
+-- What is so of both ways of a test is so of the test's answer; and so for a part, an atom, and what comes after them.
+pub pick-so : {A : Type 0} (P : A → Type 0) (b : Bool) (x y : A) → (b ≡ true → P x) → (b ≡ false → P y) → P (pick b x y)
+unfolding pick
+pick-so P true x y yea nay = yea refl
+pick-so P false x y yea nay = nay refl
+
+pub read-so :
+    {A : Type 0} (P : A → Type 0) {s : List ℕ} {a : Read} (up : Refusal → A) (next : Part → A) → Tame s a
+    → ((why : Refusal) → Placed (length s) why → P (up why)) → ((p : Part) → p .next ≤ length s → P (next p))
+    → P (readThen up a next)
+unfolding readThen
+read-so P up next (gets p l) bad good = good p l
+read-so P up next (refuses why w) bad good = bad why w
+
+pub atom-so : {A : Type 0} (P : A → Type 0) (other : A) (a : AtomOr) (next : Atom → A) → P other → ((atom : Atom) → P (next atom)) → P (atomThen other a next)
+unfolding atomThen
+atom-so P other (Is atom) next bad good = good atom
+atom-so P other Not next bad good = bad
+
+module _ (s : List ℕ) where
+  groups-tame : (left first at : ℕ) → first ≤ length s → Tame s (groupsFrom left s first at)
+  unfolding groupsFrom
+  groups-tame zero first at h = refuses _ (placed 2 first (omega arith) h)
+  groups-tame (suc left) first at h =
+      pick-so (Tame s) (ltb at (length s)) _ _
+      (λ l. pick-so (Tame s) (ltb (getD s at 0) 128) _ _
+      (λ b. pick-so (Tame s) (ltb first at && eqb (getD s at 0) 0) _ _
+      (λ z. refuses _ (placed 2 first (omega arith) h))
+      (λ z. gets _ (omega (arith, ltb-true at (length s) l))))
+      (λ b. read-so (Tame s) Refused _ (groups-tame left first (at + 1) h) refuses (λ high k. gets _ k)))
+      (λ l. refuses _ (placed 1 (length s) (omega arith) (omega arith)))
+
+  module _ (at : ℕ) (h : at ≤ length s) where
+    pub number-tame : Tame s (numberAt s at)
+    unfolding numberAt
+    number-tame = groups-tame 4 at at h
+
+    pub within-tame : (least most : ℕ) → Tame s (withinAt s least most at)
+    unfolding withinAt
+    within-tame least most =
+        read-so (Tame s) Refused _ number-tame refuses
+        (λ number k. pick-so (Tame s) (ltb (number .value) least) _ _ (λ b. outside)
+        (λ b. pick-so (Tame s) (ltb most (number .value)) _ _ (λ c. outside) (λ c. gets number k)))
+      where
+        outside : Tame s (Refused (refusal 4 at))
+        outside = refuses _ (placed 4 at (omega arith) h)
+
+    atom-tame : (n above : ℕ) → Tame s (atomAt s n above at)
+    unfolding atomAt
+    atom-tame n above =
+        read-so (Tame s) Refused _ number-tame refuses
+        (λ number k. atom-so (Tame s) _ (atomOf n (number .value)) _ (refuses _ (placed 6 at (omega arith) h))
+        (λ atom. pick-so (Tame s) (leb (atom .number) above) _ _
+        (λ b. refuses _ (placed 7 at (omega arith) h))
+        (λ b. gets number k)))
+
+  -- a run of steps, each of which stays within the bytes
+  pub run-tame :
+      (step : ℕ → ℕ → Read) → ((before at : ℕ) → at ≤ length s → Tame s (step before at)) → (left before : ℕ) (done : Part)
+      → done .next ≤ length s → Tame s (run step left before done)
+  unfolding run
+  run-tame step tame zero before done h = gets done h
+  run-tame step tame (suc left) before done h =
+      read-so (Tame s) Refused _ (tame before (done .next) h) refuses
+      (λ one k. run-tame step tame left (one .value) (upTo done (one .next)) k)
+
+  pub list-tame : (least n at : ℕ) → at ≤ length s → Tame s (listAt s least n at)
+  unfolding listAt
+  list-tame least n at h =
+      read-so (Tame s) Refused _ (within-tame at h least n) refuses
+      (λ count k. run-tame (atomAt s n) (λ before at l. atom-tame at l n before) (count .value) 0 _ k)
