@@ -1,5 +1,7 @@
-//! Two families of problems as sheets, translated as in source 002:
-//! n-colouring of graphs and propositional satisfiability.
+//! Two families of problems as sheets, translated as in Niemelä and Simons,
+//! "Smodels - an implementation of the stable model and well-founded semantics
+//! for normal logic programs": n-colouring of graphs and propositional
+//! satisfiability.
 
 use crate::draw::Draw;
 use crate::sheet::{Sheet, basic};

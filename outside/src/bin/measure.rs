@@ -96,7 +96,7 @@ fn ring_problem(vertices: usize, colours: usize) -> Problem {
     Problem { name, call: Call::Open, sheet: colouring(&ring(vertices), colours) }
 }
 
-/// 4.3 clauses for each variable, as in source 002.
+/// 4.3 clauses for each variable, as Niemelä and Simons take them.
 fn clauses_problem(variables: usize, seed: u64) -> Problem {
     let count = (variables * 43).div_ceil(10);
     let clauses = random_clauses(&mut Draw::new("3-SAT", seed), variables, count);
