@@ -1,37 +1,31 @@
 -- Every part of a sheet's rule is a number of a sheet: its kind is at most 5, its need is one, its lists have at most n atoms, all of
 -- them at most n, and its weights are light.
 use Prim.Native.Nat.{ℕ, _≤_}
-use mathlib.Core.Path.{_≡_, refl}
 use mathlib.Core.Bool.{Bool, true, false}
 use mathlib.Core.List.{List, List·Memᴰ}
 use native.Mathlib.Omega.{arith}
-use lib.ListN.{length, getD, length-map}
+use lib.ListN.{length, length-map}
 use lib.Dec.{ltb, eqb}
 use borrow.Author.Tests.{ltb-true}
 use Rattle.rules.specs.Limits.{atomsMost, weightMost, numberMost}
-use Rattle.rules.specs.Rule.{Rule, Kind, basic, constraint, choice, weight, Weighted}
+use Rattle.rules.specs.Rule.{Rule, Kind, basic, constraint, choice, weight, Weighted, body, kindNumber, atomsOf, weightsOf, itemOf, partOf}
+use Rattle.rules.specs.declared.Item.{Item}
+use Rattle.rules.specs.declared.Item.the-variants.{Is as item, Nothing as nothing}
 use Rattle.rules.proofs.Members.{index-mem}
-use Rattle.numbers.specs.Encode.{Rising}
+use Rattle.numbers.specs.shown.Encode.{Rising}
 use Rattle.numbers.proofs.Places.{pick-so}
 use Rattle.numbers.proofs.lists.Whole.{rising-few}
-use Rattle.sheet.specs.Encode.{Light}
-use Rattle.sheet.proofs.Fits.{linked-each, rising-within}
-use Rattle.sheet.proofs.Limits.{Sound}
-use Rattle.desk.specs.Promise.{kindNumber, itemOf, itemIf, atomsOf, weightsOf, partOf}
-use Rattle.desk.specs.declared.Part.{Part}
-use Rattle.desk.specs.declared.Part.the-variants.{Value, Nothing}
+use Rattle.sheet.proofs.Sound.{Sound, linked-each, rising-within}
 
 -- a part of a rule is a number of a sheet, or nothing
-pub data Numeric : Part → Type 0 where
-  number : (v : ℕ) → v ≤ numberMost → Numeric (Value v)
-  nothing : Numeric Nothing
+pub data Numeric : Item → Type 0 where
+  number : (v : ℕ) → v ≤ numberMost → Numeric (item v)
+  none : Numeric nothing
 
 item-numeric : (xs : List ℕ) (i : ℕ) → ((x : ℕ) → List·Memᴰ x xs → x ≤ numberMost) → Numeric (itemOf xs i)
-item-numeric xs i most = by (ltb i (length xs)) refl
-  where
-    by : (b : Bool) → ltb i (length xs) ≡ b → Numeric (itemIf b (getD xs i 0))
-    by true e = number _ (most _ (index-mem xs i 0 (ltb-true i (length xs) e)))
-    by false e = nothing
+unfolding itemOf
+item-numeric xs i most =
+    pick-so Numeric (ltb i (length xs)) _ _ (λ e. number _ (most _ (index-mem xs i 0 (ltb-true i (length xs) e)))) (λ _. none)
 
 kind-numeric : (kind : Kind) → kindNumber kind ≤ numberMost
 unfolding numberMost
@@ -45,16 +39,22 @@ module _ (n : ℕ) (few : n ≤ atomsMost) where
   unfolding atomsMost numberMost
   count-numeric xs rises = omega (arith, rising-few n rises (omega arith))
 
-  atom-numeric : (xs : List ℕ) → Rising n xs → (x : ℕ) → List·Memᴰ x xs → x ≤ numberMost
+  atom-numeric : (xs : List ℕ) → Rising n xs → (i : ℕ) → Numeric (itemOf xs i)
   unfolding atomsMost numberMost
-  atom-numeric xs rises x among = omega (arith, rising-within rises among .high)
+  atom-numeric xs rises i = item-numeric xs i (λ x among. omega (arith, rising-within rises among .high))
 
-  literals-numeric : (ls : List Weighted) → Rising n (atomsOf ls) → length ls ≤ numberMost
-  literals-numeric ls rises = omega (arith, count-numeric (atomsOf ls) rises, length-map ls (λ (l : Weighted). l .atom))
+  module _ (r : Rule) (sound : Sound n r) (s : Bool) where
+    literals-numeric : length (body r s) ≤ numberMost
+    literals-numeric = omega (arith, count-numeric (atomsOf (body r s)) (sound .atoms s), length-map (body r s) (λ (l : Weighted). l .atom))
 
-weight-numeric : (ws : List ℕ) → Light ws → (w : ℕ) → List·Memᴰ w ws → w ≤ numberMost
-unfolding weightMost numberMost
-weight-numeric ws light w among = omega (arith, linked-each (λ x. x ≤ weightMost) (λ before x q. q .most) light among)
+    literal-numeric : (i : ℕ) → Numeric (itemOf (atomsOf (body r s)) i)
+    literal-numeric i = atom-numeric (atomsOf (body r s)) (sound .atoms s) i
+
+    weight-numeric : (i : ℕ) → Numeric (itemOf (weightsOf (body r s)) i)
+    unfolding weightMost numberMost
+    weight-numeric i =
+        item-numeric (weightsOf (body r s)) i
+        (λ w among. omega (arith, linked-each (λ x. x ≤ weightMost) (λ before x q. q .most) (sound .light s) among))
 
 pub part-numeric : (n : ℕ) (r : Rule) (p i : ℕ) → n ≤ atomsMost → Sound n r → Numeric (partOf r p i)
 unfolding partOf
@@ -62,11 +62,11 @@ part-numeric n r p i few sound =
     pick-so Numeric (eqb p 0) _ _ (λ _. number _ (kind-numeric (r .kind)))
     (λ _. pick-so Numeric (eqb p 1) _ _ (λ _. number _ (sound .need))
     (λ _. pick-so Numeric (eqb p 2) _ _ (λ _. number _ (count-numeric n few (r .heads) (sound .heads)))
-    (λ _. pick-so Numeric (eqb p 3) _ _ (λ _. item-numeric (r .heads) i (atom-numeric n few (r .heads) (sound .heads)))
-    (λ _. pick-so Numeric (eqb p 4) _ _ (λ _. number _ (literals-numeric n few (r .pos) (sound .pos)))
-    (λ _. pick-so Numeric (eqb p 5) _ _ (λ _. item-numeric (atomsOf (r .pos)) i (atom-numeric n few (atomsOf (r .pos)) (sound .pos)))
-    (λ _. pick-so Numeric (eqb p 6) _ _ (λ _. item-numeric (weightsOf (r .pos)) i (weight-numeric (weightsOf (r .pos)) (sound .posLight)))
-    (λ _. pick-so Numeric (eqb p 7) _ _ (λ _. number _ (literals-numeric n few (r .neg) (sound .neg)))
-    (λ _. pick-so Numeric (eqb p 8) _ _ (λ _. item-numeric (atomsOf (r .neg)) i (atom-numeric n few (atomsOf (r .neg)) (sound .neg)))
-    (λ _. pick-so Numeric (eqb p 9) _ _ (λ _. item-numeric (weightsOf (r .neg)) i (weight-numeric (weightsOf (r .neg)) (sound .negLight)))
-    (λ _. nothing))))))))))
+    (λ _. pick-so Numeric (eqb p 3) _ _ (λ _. atom-numeric n few (r .heads) (sound .heads) i)
+    (λ _. pick-so Numeric (eqb p 4) _ _ (λ _. number _ (literals-numeric n few r sound true))
+    (λ _. pick-so Numeric (eqb p 5) _ _ (λ _. literal-numeric n few r sound true i)
+    (λ _. pick-so Numeric (eqb p 6) _ _ (λ _. weight-numeric n few r sound true i)
+    (λ _. pick-so Numeric (eqb p 7) _ _ (λ _. number _ (literals-numeric n few r sound false))
+    (λ _. pick-so Numeric (eqb p 8) _ _ (λ _. literal-numeric n few r sound false i)
+    (λ _. pick-so Numeric (eqb p 9) _ _ (λ _. weight-numeric n few r sound false i)
+    (λ _. none))))))))))

@@ -4,14 +4,14 @@ use Prim.Native.Nat.{ℕ, suc, _+_, _/_, _%_, _<_, _^_}
 use mathlib.Core.Path.{_≡_}
 use native.Mathlib.Omega.{arith}
 use lib.IntN.{pos, negsuc}
-use Rattle.archive.specs.Code.{code, counts, raised}
+use Rattle.archive.specs.Code.{coded, counts, raised}
 
 pub record ReadBack (base top value whole : ℕ) : Type 0 where
   pub top′ : whole / base ≡ top
   pub value′ : whole % base ≡ value
 
-pub code-read : (top value : ℕ) → top < 2 ^ 24 → value < 2 ^ 40 → ReadBack (2 ^ 40) top value (code top value)
-unfolding code
+pub code-read : (top value : ℕ) → top < 2 ^ 24 → value < 2 ^ 40 → ReadBack (2 ^ 40) top value (coded top value)
+unfolding coded
 code-read top value ht hv = record { top′ = omega arith; value′ = omega arith }
 
 pub counts-read : (n rules : ℕ) → n < 2 ^ 16 → rules < 2 ^ 16 → ReadBack (2 ^ 16) n rules (counts n rules)

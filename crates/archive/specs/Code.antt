@@ -9,20 +9,20 @@ use lib.IntN.{ℤ, pos, negsuc}
 use Rattle.numbers.specs.declared.Refusal.{Refusal}
 use Rattle.desk.specs.declared.Checked.{Checked}
 use Rattle.desk.specs.declared.Checked.the-variants.{Accepted, Refused as RefusedSheet}
-use Rattle.desk.specs.declared.Part.{Part}
-use Rattle.desk.specs.declared.Part.the-variants.{Value, Nothing, Refused as RefusedPart}
+use Rattle.desk.specs.declared.PartRead.{PartRead}
+use Rattle.desk.specs.declared.PartRead.the-variants.{Value, Nothing, Refused as RefusedPart}
 use Rattle.desk.specs.declared.Opened.{Opened}
 use Rattle.desk.specs.declared.Opened.the-variants.{Closed, Contradiction, Refused as RefusedMap}
 use Rattle.desk.specs.declared.Solved.{Solved}
 use Rattle.desk.specs.declared.Solved.the-variants.{Model, NoModel, Refused as RefusedSolve}
 use Rattle.desk.specs.declared.Tested.{Tested}
 use Rattle.desk.specs.declared.Tested.the-variants.{Stable, NotStable, Refused as RefusedTest}
-use Rattle.desk.specs.declared.Margin.{Margin}
-use Rattle.desk.specs.declared.Margin.the-variants.{Is, Refused as RefusedMargin}
+use Rattle.desk.specs.declared.MarginRead.{MarginRead}
+use Rattle.desk.specs.declared.MarginRead.the-variants.{Is, Refused as RefusedMargin}
 
 -- top * 2^40 + value
-unfoldable pub code : ℕ → ℕ → ℕ
-code top value = top % 2 ^ 24 * 2 ^ 40 + value % 2 ^ 40
+unfoldable pub coded : ℕ → ℕ → ℕ
+coded top value = top % 2 ^ 24 * 2 ^ 40 + value % 2 ^ 40
 
 -- n * 2^16 + rules
 unfoldable pub counts : ℕ → ℕ → ℕ
@@ -35,38 +35,38 @@ raised (negsuc k) = 2 ^ 32 - suc k
 
 -- refusal k at place p
 abbrev pub codeRefusal : Refusal → ℕ
-codeRefusal why = code (why .number) (why .place)
+codeRefusal why = coded (why .number) (why .place)
 
 abbrev pub codeChecked : Checked → ℕ
-codeChecked (Accepted n rules) = code 32 (counts n rules)
+codeChecked (Accepted n rules) = coded 32 (counts n rules)
 codeChecked (RefusedSheet why) = codeRefusal why
 
 abbrev pub codeOpened : Opened → ℕ
-codeOpened (Closed undecided) = code 33 undecided
-codeOpened Contradiction = code 34 0
+codeOpened (Closed undecided) = coded 33 undecided
+codeOpened Contradiction = coded 34 0
 codeOpened (RefusedMap why) = codeRefusal why
 
 abbrev pub codeSolved : Solved → ℕ
-codeSolved Model = code 35 0
-codeSolved NoModel = code 36 0
+codeSolved Model = coded 35 0
+codeSolved NoModel = coded 36 0
 codeSolved (RefusedSolve why) = codeRefusal why
 
 abbrev pub codeTested : Tested → ℕ
-codeTested Stable = code 37 0
-codeTested NotStable = code 38 0
+codeTested Stable = coded 37 0
+codeTested NotStable = coded 38 0
 codeTested (RefusedTest why) = codeRefusal why
 
-abbrev pub codeMargin : Margin → ℕ
-codeMargin (Is margin) = code 39 (raised margin)
+abbrev pub codeMargin : MarginRead → ℕ
+codeMargin (Is margin) = coded 39 (raised margin)
 codeMargin (RefusedMargin why) = codeRefusal why
 
-abbrev pub codePart : Part → ℕ
-codePart (Value value) = code 40 value
-codePart Nothing = code 41 0
+abbrev pub codePart : PartRead → ℕ
+codePart (Value value) = coded 40 value
+codePart Nothing = coded 41 0
 codePart (RefusedPart why) = codeRefusal why
 
 -- r hands on an answer that meets the call's promise
-pub record Hands {A : Type 0} (Promised : A → Type 0) (coding : A → ℕ) (r : ℕ) : Type 0 where
+pub record HandsOn {A : Type 0} (Promised : A → Type 0) (coding : A → ℕ) (r : ℕ) : Type 0 where
   pub answer : A
   pub promised : Promised answer
   pub coded : r ≡ coding answer

@@ -1,13 +1,13 @@
 // The coding of the calls' answers: top * 2^40 + value.
 use desk::Checked;
-use desk::Margin;
+use desk::MarginRead;
 use desk::Opened;
-use desk::Part;
+use desk::PartRead;
 use desk::Solved;
 use desk::Tested;
 use numbers::Refusal;
 ghost use mathlib.Core.Path.{_≡_};
-ghost use Rattle.archive.specs.Code.{code as codeOf, counts as countsOf, raised as raisedOf, codeRefusal, codeChecked, codeOpened, codeSolved, codeTested, codeMargin, codePart};
+ghost use Rattle.archive.specs.Code.{coded as codeOf, counts as countsOf, raised as raisedOf, codeRefusal, codeChecked, codeOpened, codeSolved, codeTested, codeMargin, codePart};
 
 // How many tops and values there are.
 const TOPS: u64 = 0x100_0000;
@@ -109,21 +109,21 @@ pub(crate) fn of_tested(answer: Tested) -> u64
     }
 }
 
-pub(crate) fn of_margin(answer: Margin) -> u64
+pub(crate) fn of_margin(answer: MarginRead) -> u64
     ensures { λ r. ⌜ r ≡ codeMargin answer ⌝ }
 {
     match answer {
-        Margin::Is(margin) => code(MARGIN, raised(margin)),
-        Margin::Refused(why) => of_refusal(why),
+        MarginRead::Is(margin) => code(MARGIN, raised(margin)),
+        MarginRead::Refused(why) => of_refusal(why),
     }
 }
 
-pub(crate) fn of_part(answer: Part) -> u64
+pub(crate) fn of_part(answer: PartRead) -> u64
     ensures { λ r. ⌜ r ≡ codePart answer ⌝ }
 {
     match answer {
-        Part::Value(value) => code(PART, value as u64),
-        Part::Nothing => code(NOTHING, 0),
-        Part::Refused(why) => of_refusal(why),
+        PartRead::Value(value) => code(PART, value as u64),
+        PartRead::Nothing => code(NOTHING, 0),
+        PartRead::Refused(why) => of_refusal(why),
     }
 }

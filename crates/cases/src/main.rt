@@ -3,12 +3,12 @@ mod show;
 
 use desk::Checked;
 use desk::Solved;
-use desk::margins::margin;
-use desk::open::open;
-use desk::pin::pin;
-use desk::read::check;
-use desk::solve::solve;
-use desk::test::test;
+use desk::check;
+use desk::margin;
+use desk::open;
+use desk::pin;
+use desk::solve;
+use desk::test;
 use rules::Atom;
 use show::say;
 use show::show_checked;
@@ -22,7 +22,7 @@ use text::model_line;
 use text::none_line;
 ghost use Rattle.io.specs.Counts.{Counts};
 
-fn atoms(sheet: &[u8]) -> usize {
+fn atom_count(sheet: &[u8]) -> usize {
     let checked = check(sheet);
     match checked {
         Checked::Accepted(n, _) => n,
@@ -38,34 +38,34 @@ fn show_line(line: Line)
     say(&bytes[..n]);
 }
 
-fn opened(sheet: &[u8], map: &mut [u8]) {
+fn show_open(sheet: &[u8], map: &mut [u8]) {
     let answer = open(sheet, map);
     say(b"  open");
     show_opened(answer);
-    show_map(map, atoms(sheet));
+    show_map(map, atom_count(sheet));
 }
 
-fn pinned(sheet: &[u8], map: &mut [u8], name: &[u8], atom: usize, side: usize) {
+fn show_pin(sheet: &[u8], map: &mut [u8], name: &[u8], atom: usize, side: usize) {
     let answer = pin(sheet, map, atom, side);
     say(b"  pin ");
     say(name);
     show_opened(answer);
-    show_map(map, atoms(sheet));
+    show_map(map, atom_count(sheet));
 }
 
-fn solved(sheet: &[u8], map: &mut [u8]) {
+fn show_solve(sheet: &[u8], map: &mut [u8]) {
     let answer = solve(sheet, map);
     say(b"  first");
     match answer {
         Solved::Model => {
-            show_map(map, atoms(sheet));
+            show_map(map, atom_count(sheet));
             say(b"  test");
             show_tested(test(sheet, map));
             say(b"  line ");
-            show_line(model_line(map, atoms(sheet)));
+            show_line(model_line(map, atom_count(sheet)));
         }
         Solved::NoModel => {
-            show_map(map, atoms(sheet));
+            show_map(map, atom_count(sheet));
             say(b"  line ");
             show_line(none_line());
         }
@@ -73,20 +73,20 @@ fn solved(sheet: &[u8], map: &mut [u8]) {
     }
 }
 
-fn margin_of(sheet: &[u8], map: &[u8], rule: usize) {
+fn show_margin_of(sheet: &[u8], map: &[u8], rule: usize) {
     say(b"  margin");
     show_margin(margin(sheet, map, rule));
 }
 
 // A sheet opened, and its first model.
-fn worked(name: &[u8], sheet: &[u8]) {
+fn show_case(name: &[u8], sheet: &[u8]) {
     let mut map = [0u8; Atom::LAST];
     say(name);
-    opened(sheet, &mut map);
-    solved(sheet, &mut map);
+    show_open(sheet, &mut map);
+    show_solve(sheet, &mut map);
 }
 
-fn checked(name: &[u8], sheet: &[u8]) {
+fn show_check(name: &[u8], sheet: &[u8]) {
     say(name);
     show_checked(check(sheet));
 }
@@ -96,14 +96,14 @@ fn two_of_four() {
     let sheet =
         b"\x01\x05\x02\x03\x04\x02\x03\x04\x05\x00\x00\x02\x01\x02\x04\x02\x03\x04\x05\x00\x00\x00";
     let mut map = [0u8; Atom::LAST];
-    worked(b"choice {2,3,4,5}; 1 if 2 of {2,3,4,5}\n", sheet);
-    opened(sheet, &mut map);
-    pinned(sheet, &mut map, b"1 out", 1, 2);
-    pinned(sheet, &mut map, b"2 in", 2, 1);
-    opened(sheet, &mut map);
-    pinned(sheet, &mut map, b"1 in", 1, 1);
-    pinned(sheet, &mut map, b"2 out", 2, 2);
-    pinned(sheet, &mut map, b"3 out", 3, 2);
+    show_case(b"choice {2,3,4,5}; 1 if 2 of {2,3,4,5}\n", sheet);
+    show_open(sheet, &mut map);
+    show_pin(sheet, &mut map, b"1 out", 1, 2);
+    show_pin(sheet, &mut map, b"2 in", 2, 1);
+    show_open(sheet, &mut map);
+    show_pin(sheet, &mut map, b"1 in", 1, 1);
+    show_pin(sheet, &mut map, b"2 out", 2, 2);
+    show_pin(sheet, &mut map, b"3 out", 3, 2);
 }
 
 // A weight rule, and its margins.
@@ -111,59 +111,59 @@ fn weighed() {
     let sheet =
         b"\x01\x04\x02\x03\x03\x02\x03\x04\x00\x00\x05\x01\x06\x02\x02\x03\x01\x04\x03\x04\x02\x00\x00";
     let mut map = [0u8; Atom::LAST];
-    worked(
+    show_case(
         b"choice {2,3,4}; 1 if {2=3, 3=4, not 4=2} at least 6\n",
         sheet,
     );
-    opened(sheet, &mut map);
-    pinned(sheet, &mut map, b"1 in", 1, 1);
-    opened(sheet, &mut map);
-    margin_of(sheet, &map, 2);
-    pinned(sheet, &mut map, b"2 out", 2, 2);
-    pinned(sheet, &mut map, b"3 out", 3, 2);
-    margin_of(sheet, &map, 2);
+    show_open(sheet, &mut map);
+    show_pin(sheet, &mut map, b"1 in", 1, 1);
+    show_open(sheet, &mut map);
+    show_margin_of(sheet, &map, 2);
+    show_pin(sheet, &mut map, b"2 out", 2, 2);
+    show_pin(sheet, &mut map, b"3 out", 3, 2);
+    show_margin_of(sheet, &map, 2);
 }
 
-fn refused() {
-    checked(b"empty:", b"");
-    checked(b"01 02:", b"\x01\x02");
-    checked(b"80 00:", b"\x80\x00");
-    checked(b"02:", b"\x02");
-    checked(b"01 81 04:", b"\x01\x81\x04");
-    checked(b"01 80 04:", b"\x01\x80\x04");
-    checked(b"01 01 01 04:", b"\x01\x01\x01\x04");
-    checked(b"01 01 01 01 02:", b"\x01\x01\x01\x01\x02");
-    checked(b"01 02 01 03 02 02 01:", b"\x01\x02\x01\x03\x02\x02\x01");
-    checked(b"01 00 00 00 00 00:", b"\x01\x00\x00\x00\x00\x00");
-    checked(b"01 00 00 00 00:", b"\x01\x00\x00\x00\x00");
+fn show_refusals() {
+    show_check(b"empty:", b"");
+    show_check(b"01 02:", b"\x01\x02");
+    show_check(b"80 00:", b"\x80\x00");
+    show_check(b"02:", b"\x02");
+    show_check(b"01 81 04:", b"\x01\x81\x04");
+    show_check(b"01 80 04:", b"\x01\x80\x04");
+    show_check(b"01 01 01 04:", b"\x01\x01\x01\x04");
+    show_check(b"01 01 01 01 02:", b"\x01\x01\x01\x01\x02");
+    show_check(b"01 02 01 03 02 02 01:", b"\x01\x02\x01\x03\x02\x02\x01");
+    show_check(b"01 00 00 00 00 00:", b"\x01\x00\x00\x00\x00\x00");
+    show_check(b"01 00 00 00 00:", b"\x01\x00\x00\x00\x00");
 }
 
 fn main() {
-    worked(b"no atoms\n", b"\x01\x00\x00\x00\x00");
-    worked(b"1 if 1\n", b"\x01\x01\x01\x01\x01\x01\x01\x00\x00\x00");
-    worked(b"1 if not 1\n", b"\x01\x01\x01\x01\x01\x00\x01\x01\x00\x00");
-    worked(
+    show_case(b"no atoms\n", b"\x01\x00\x00\x00\x00");
+    show_case(b"1 if 1\n", b"\x01\x01\x01\x01\x01\x01\x01\x00\x00\x00");
+    show_case(b"1 if not 1\n", b"\x01\x01\x01\x01\x01\x00\x01\x01\x00\x00");
+    show_case(
         b"1 if not 2; 2 if not 1\n",
         b"\x01\x02\x02\x01\x01\x00\x01\x02\x01\x02\x00\x01\x01\x00\x00",
     );
-    worked(b"choice {1}\n", b"\x01\x01\x01\x03\x01\x01\x00\x00\x00\x00");
-    worked(
+    show_case(b"choice {1}\n", b"\x01\x01\x01\x03\x01\x01\x00\x00\x00\x00");
+    show_case(
         b"1 if 2; 2 if 1; 3 if not 1\n",
         b"\x01\x03\x03\x01\x01\x01\x02\x00\x01\x02\x01\x01\x00\x01\x03\x00\x01\x01\x00\x00",
     );
-    worked(
+    show_case(
         b"1 if 0 of {2}\n",
         b"\x01\x02\x01\x02\x01\x00\x01\x02\x00\x00\x00",
     );
-    worked(
+    show_case(
         b"choice {1}, 1 in both compute lists\n",
         b"\x01\x01\x01\x03\x01\x01\x00\x00\x01\x01\x01\x01",
     );
     two_of_four();
     weighed();
-    worked(
+    show_case(
         b"P5 of a lecture by Cabalar\n",
         b"\x01\x08\x08\x01\x01\x01\x03\x01\x02\x01\x02\x00\x01\x01\x01\x03\x00\x00\x01\x04\x01\x05\x01\x07\x01\x05\x01\x04\x01\x07\x01\x06\x00\x01\x04\x01\x07\x00\x01\x03\x01\x08\x01\x07\x00\x00\x00",
     );
-    refused();
+    show_refusals();
 }

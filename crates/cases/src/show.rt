@@ -1,6 +1,6 @@
 // What the calls answer, as text on standard output.
 use desk::Checked;
-use desk::Margin;
+use desk::MarginRead;
 use desk::Opened;
 use desk::Tested;
 use io::print_decimal;
@@ -15,7 +15,7 @@ fn say_number(x: u64) {
     print_decimal(STDOUT_FILENO, x);
 }
 
-fn wide(b: u8) -> u64 {
+fn widened(b: u8) -> u64 {
     b as u64
 }
 
@@ -25,7 +25,7 @@ pub(crate) fn show_map(map: &[u8], n: usize) {
     while i < n {
         if i < map.len() {
             say(b" ");
-            say_number(wide(map[i]));
+            say_number(widened(map[i]));
         }
         i += 1;
     }
@@ -81,9 +81,9 @@ fn size(margin: i64) -> u64 {
     1 + (-1 - margin) as u64
 }
 
-pub(crate) fn show_margin(answer: Margin) {
+pub(crate) fn show_margin(answer: MarginRead) {
     match answer {
-        Margin::Is(margin) => {
+        MarginRead::Is(margin) => {
             if margin < 0 {
                 say(b" -");
             } else {
@@ -91,7 +91,7 @@ pub(crate) fn show_margin(answer: Margin) {
             }
             say_number(size(margin));
         }
-        Margin::Refused(why) => show_refusal(why),
+        MarginRead::Refused(why) => show_refusal(why),
     }
     say(b"\n");
 }

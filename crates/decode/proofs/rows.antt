@@ -3,3 +3,4 @@ pub mod Written
 pub mod Rule
 pub mod Meant
 pub mod Left
+pub mod Writing

@@ -1,4 +1,1 @@
-pub mod Words
-pub mod Pairs
-pub mod Rows
-pub mod Decode
+pub mod inner

@@ -1,21 +1,20 @@
 // Lists of atoms and literals, written as pairs of words.
 ghost use mathlib.Core.List.{[], _∷_};
-ghost use Rattle.rules.specs.Rule.{ones};
+ghost use Rattle.rules.specs.Rule.{ones, weighted};
 ghost use Rattle.numbers.specs.Lists.{numbersFrom};
-ghost use Rattle.sheet.specs.Meaning.{weigh};
-ghost use Rattle.decode.specs.Pairs.{literal, PairAsks, Asks, Copied};
-use super::words::put;
-use numbers::Read;
-use numbers::number::read_number;
+ghost use Rattle.sheet.specs.Meaning.{paired};
+ghost use Rattle.decode.specs.inner.Pairs.{PairFits, PairsFit, PairsCopied};
+use super::words::set_word;
+use numbers::take_number;
 use table::PAIR;
 
 // One atom and its weight; and the place after them.
 pub(crate) fn write_pair(code: &mut [u32], j: usize, atom: usize, weight: usize) -> usize
-    requires { ⌜ PairAsks (now code) j atom weight ⌝ }
-    ensures { λ r. ⌜ Copied (now (code .entry)) j (literal atom weight ∷ []) (now (code .exit)) r ⌝ }
+    requires { ⌜ PairFits (now code) j atom weight ⌝ }
+    ensures { λ r. ⌜ PairsCopied (now (code .entry)) j (weighted atom weight ∷ []) (now (code .exit)) r ⌝ }
 {
-    put(code, PAIR * j, atom);
-    put(code, PAIR * j + 1, weight);
+    set_word(code, PAIR * j, atom);
+    set_word(code, PAIR * j + 1, weight);
     j + 1
 }
 
@@ -27,16 +26,13 @@ pub(crate) fn copy_atoms(
     code: &mut [u32],
     from: usize,
 ) -> usize
-    requires { ⌜ Asks (now code) from (ones (numbersFrom count (now s) first)) ⌝ }
-    ensures { λ r. ⌜ Copied (now (code .entry)) from (ones (numbersFrom count (now (s .entry)) first)) (now (code .exit)) r ⌝ }
+    requires { ⌜ PairsFit (now code) from (ones (numbersFrom count (now s) first)) ⌝ }
+    ensures { λ r. ⌜ PairsCopied (now (code .entry)) from (ones (numbersFrom count (now (s .entry)) first)) (now (code .exit)) r ⌝ }
 {
     let mut at = first;
     let mut j = from;
     for _ in 0..count {
-        let got = read_number(s, at);
-        let Read::Got(atom) = got else {
-            return j;
-        };
+        let atom = take_number(s, at);
         j = write_pair(code, j, atom.value, 1);
         at = atom.next;
     }
@@ -52,21 +48,15 @@ pub(crate) fn copy_weighed(
     code: &mut [u32],
     from: usize,
 ) -> usize
-    requires { ⌜ Asks (now code) from (weigh (numbersFrom count (now s) atoms) (numbersFrom count (now s) weights)) ⌝ }
-    ensures { λ r. ⌜ Copied (now (code .entry)) from (weigh (numbersFrom count (now (s .entry)) atoms) (numbersFrom count (now (s .entry)) weights)) (now (code .exit)) r ⌝ }
+    requires { ⌜ PairsFit (now code) from (paired (numbersFrom count (now s) atoms) (numbersFrom count (now s) weights)) ⌝ }
+    ensures { λ r. ⌜ PairsCopied (now (code .entry)) from (paired (numbersFrom count (now (s .entry)) atoms) (numbersFrom count (now (s .entry)) weights)) (now (code .exit)) r ⌝ }
 {
     let mut at = atoms;
     let mut by = weights;
     let mut j = from;
     for _ in 0..count {
-        let got = read_number(s, at);
-        let Read::Got(atom) = got else {
-            return j;
-        };
-        let last = read_number(s, by);
-        let Read::Got(weight) = last else {
-            return j;
-        };
+        let atom = take_number(s, at);
+        let weight = take_number(s, by);
         j = write_pair(code, j, atom.value, weight.value);
         at = atom.next;
         by = weight.next;

@@ -1,148 +1,138 @@
--- Order does not matter. After open and after each accepted pin the map is the least closed map that holds the compute lists and the
--- accepted pins so far, or the contradiction; a refused pin leaves it alone. The least map sees neither the order of the rules nor
--- the order of the pins, so two such runs end in the same bytes.
+-- Order does not matter. After open and after each pin a run stands where one open would end that asked for the compute lists and the
+-- accepted pins so far, on the map that was first lent. What is asked sees neither the order of the rules nor that of the pins, and the
+-- end of a question is tight: so two such runs end in the same bytes, with the same answer.
 use Prim.Native.Nat.{ℕ, _≤_, _<_}
-use mathlib.Core.Path.{_≡_, refl, sym, _∙_, ap, ap₂, subst}
-use mathlib.Core.Bool.{Bool, true, false, not, _&&_}
-use mathlib.Core.List.{List, [], _∷_, _++_, append-assoc, append-nil, map}
+use mathlib.Core.Path.{_≡_, refl, sym, _∙_, ap, subst, ap₂}
+use mathlib.Core.Bool.{Bool, true, false, _&&_, true≢false}
+use mathlib.Core.List.{List, [], _∷_, _++_, append-assoc, append-nil}
 use native.Mathlib.Omega.{arith}
-use lib.ListN.{length, getD, drop, replicate, length-append, length-replicate, List·getD-append, getD-replicate}
-use lib.Dec.{T}
-use borrow.Author.Tests.{le-ltb}
-use Rattle.rules.specs.Rule.{Sheet, Numbered, Shuffled}
+use lib.ListN.{length, getD, replicate}
+use lib.Dec.{eqb}
+use Rattle.rules.specs.Sum.{pick}
+use Rattle.rules.specs.Rule.{Sheet, Within, Shuffled}
+use Rattle.rules.specs.inner.Fits.{Numbered}
 use Rattle.rules.specs.Stable.{Set, Model}
-use Rattle.rules.specs.Map.{Map, Literal, Holding, inside, side, total, _⊑_}
-use Rattle.rules.specs.Forcing.{Closed, Least, Contradiction, Pinned, SameSet, computed, inn, out}
-use Rattle.rules.proofs.Least.{least-same, contradiction-same, least-unique, least-or-contradiction, holding-left, holding-right, holding-append, pins-after, contradiction-after, pin-held, holding-nil, holding-set, same-sym}
+use Rattle.rules.specs.Map.{Map, Literal, Holding, Written, inside, side, signed, total, _⊑_, undecided}
+use Rattle.rules.specs.Forcing.{Closed, Least, Pinned, SameSet, computed}
+use Rattle.rules.proofs.Least.{least-same, contradiction-same, holding-left, holding-right, holding-append, pins-after, contradiction-after, pin-held, holding-nil}
 use Rattle.rules.proofs.Models.{loses-none, none-lost}
-use Rattle.rules.proofs.Shuffle.{shuffled, least-alike, contradiction-alike}
-use Rattle.rules.proofs.Bytes.{map-side}
-use Rattle.rules.proofs.Tests.{T-and-left}
-use Rattle.rules.proofs.Inside.{inside-within}
+use Rattle.rules.proofs.Shuffle.{least-shuffled, contradiction-shuffled}
+use Rattle.rules.proofs.Bytes.{map-side, written-trans}
+use Rattle.rules.proofs.Tests.{T-and-left, T-and-right, true-T}
+use Rattle.rules.proofs.Inside.{inside-within, inside-true}
 use Rattle.numbers.specs.Answer.{refusal}
 use Rattle.numbers.specs.declared.Refusal.{Refusal}
-use Rattle.sheet.specs.Meaning.{Reading, accepted, sheetOf}
-use Rattle.desk.specs.Gate.{Gate, go, Fault, none, sheetThen, stopIf, roomThen, pinThen, faultThen, openGate, pinGate, mapFault, isThrees}
-use Rattle.desk.specs.Promise.{Upon, Opens, Pins, Ends, PinEnds, ClosedMap, Asked, threes, pinned}
-use Rattle.weigh.specs.Step.{undecided}
-use Rattle.desk.specs.Run.{Pin, keepIf, acceptedOf, Pinning, done, next, Run, Final, closed, contradiction}
+use Rattle.sheet.specs.Sheet.{sheetRead}
+use Rattle.sheet.specs.Meaning.{accepted, sheetMeant}
+use Rattle.sheet.specs.declared.Outline.{Outline}
+use Rattle.sheet.specs.declared.SheetRead.the-variants.{Accepted}
+use Rattle.sheet.proofs.Accepted.{outlined, numbered}
+use Rattle.gate.specs.Scan.{isContradiction, mapFault}
+use Rattle.gate.specs.Gate.{pinGate}
+use Rattle.gate.specs.declared.Task.{Task}
+use Rattle.gate.specs.declared.Gate.{Gate}
+use Rattle.gate.specs.declared.Gate.the-variants.{Go}
+use Rattle.gate.proofs.Calls.{pin-through, opens-through, pins-through, pins-barred}
+use Rattle.gate.proofs.scan.Maps.{map-none, map-stands, threes-map, threes-contradict}
+use Rattle.desk.specs.Promise.{Upon, Opens, Pins, Ends, PinAsks, PinEnds, threes}
+use Rattle.desk.specs.Run.{Pin, acceptedOf, latest, PinCalls, done, next, Run}
 use Rattle.desk.specs.declared.Opened.{Opened}
 use Rattle.desk.specs.declared.Opened.the-variants.{Closed as ClosedWith, Contradiction as Contradicted, Refused as RefusedMap}
-use Rattle.desk.proofs.Maps.{side-bytes}
-use Rattle.desk.proofs.Faults.{proper-no-fault, proper-no-threes, threes-no-fault, threes-threes}
-use Rattle.desk.proofs.Sheets.{numbered}
-use Rattle.desk.proofs.Tight.{ends-tight}
+use Rattle.desk.proofs.hand.Laws.{threes-are}
+use Rattle.desk.proofs.Tight.{ends-alike, ends-written, ends-tight}
 
--- the map after some of the pins, and that it is long enough
-record State (sh : Sheet) (ps : List Literal) (m : List ℕ) : Type 0 where
-  final : Final sh ps m
-  room : sh .atoms ≤ length m
+-- a promise whose gate is known
+through : (s : List ℕ) (A : Refusal → Type 0) (B : Sheet → Type 0) {g h : Gate} → g ≡ h → Upon s g A B → Upon s h A B
+through s A B e p = subst (λ (x : Gate). Upon s x A B) e p
 
--- a gate that is known
-through : (A : Refusal → Type 0) (B : Sheet → Type 0) {g h : Gate} → g ≡ h → Upon g A B → Upon h A B
-through A B e p = subst (λ (x : Gate). Upon x A B) e p
+-- the end of one question is that of another, where the two ask the same
+asks-same :
+    (sh : Sheet) (Q Q′ : Map → Type 0) (m m′ : List ℕ) (r : Opened) → ((X : Map) → Q X → Q′ X) → ((X : Map) → Q′ X → Q X)
+    → Ends sh Q m m′ r → Ends sh Q′ m m′ r
+asks-same sh Q Q′ m m′ (ClosedWith k) onto back e =
+    record { least = least-same Q Q′ onto back (e .least); open′ = e .open′; written = e .written }
+asks-same sh Q Q′ m m′ Contradicted onto back e = record { none = contradiction-same Q Q′ back (e .none); bytes = e .bytes }
+asks-same sh Q Q′ m m′ (RefusedMap why) onto back e = absurd e
 
-open-gate : (s m : List ℕ) (sh : Sheet) → sheetOf s ≡ accepted sh → sh .atoms ≤ length m → openGate s m ≡ go sh
-unfolding openGate
-open-gate s m sh is room =
-    ap (λ (r : Reading). sheetThen r (λ x. roomThen x m (go x))) is
-    ∙ ap (λ (b : Bool). stopIf b (refusal 10 0) (go sh)) (le-ltb (length m) (sh .atoms) room)
+module _ (s : List ℕ) (o : Outline) (is : sheetRead s ≡ Accepted o) (l : List ℕ) (enough : o .atoms ≤ length l) where
+  abbrev sh : Sheet
+  sh = sheetMeant s o
 
-pin-gate :
-    (s m : List ℕ) (sh : Sheet) (a v : ℕ) → sheetOf s ≡ accepted sh → sh .atoms ≤ length m
-    → pinGate s m a v ≡ pinThen sh a v (faultThen (mapFault (sh .atoms) m) (go sh))
-unfolding pinGate
-pin-gate s m sh a v is room =
-    ap (λ (r : Reading). sheetThen r (λ x. roomThen x m (pinThen x a v (faultThen (mapFault (x .atoms) m) (go x))))) is
-    ∙ ap
-    (λ (b : Bool). stopIf b (refusal 10 0) (pinThen sh a v (faultThen (mapFault (sh .atoms) m) (go sh))))
-    (le-ltb (length m) (sh .atoms) room)
-
-threes-are : (n : ℕ) (m : List ℕ) (i : ℕ) → i < n → getD (threes n m) i 0 ≡ 3
-threes-are n m i h =
-    List·getD-append (replicate n 3) (drop n m) 0 i (omega (arith, length-replicate {A = ℕ} n 3, h)) ∙ getD-replicate n i 3 0 h
-
-threes-long : (n : ℕ) (m : List ℕ) → n ≤ length (threes n m)
-threes-long n m = omega (arith, length-append (replicate n 3) (drop n m), length-replicate {A = ℕ} n 3)
-
--- the end of a question is a state
-ended :
-    (sh : Sheet) (ps : List Literal) (Q : Map → Type 0) (m m′ : List ℕ) (r : Opened) → sh .atoms ≤ length m
-    → ((M : Map) → Least (sh .rules) (sh .atoms) Q M → Least (sh .rules) (sh .atoms) (Pinned sh ps) M)
-    → (Contradiction (sh .rules) (sh .atoms) Q → Contradiction (sh .rules) (sh .atoms) (Pinned sh ps))
-    → Ends sh Q m m′ r → State sh ps m′
-ended sh ps Q m m′ (ClosedWith k) room f g e =
-    record { final = closed (f (side (sh .atoms) m′) (e .least)); room = omega (arith, e .written .long, room) }
-ended sh ps Q m m′ Contradicted room f g e =
-    record {
-      final =
-          contradiction
-          (g (e .none))
-          (λ i h. ap (λ (l : List ℕ). getD l i 0) (e .bytes) ∙ threes-are (sh .atoms) m i h);
-      room = subst (λ (l : List ℕ). sh .atoms ≤ length l) (sym (e .bytes)) (threes-long (sh .atoms) m);
-    }
-ended sh ps Q m m′ (RefusedMap why) room f g e = absurd e
-
-module _ (s : List ℕ) (sh : Sheet) (is : sheetOf s ≡ accepted sh) where
   abbrev n : ℕ
-  n = sh .atoms
+  n = o .atoms
 
-  abbrev Held : List Literal → Map → Type 0
-  Held ps = Pinned sh ps
+  -- where a run stands after some pins, on the map that was first lent
+  abbrev State : List Literal → List ℕ → Opened → Type 0
+  State ps m r = Ends sh (Pinned sh ps) l m r
 
-  opened-state : (m m′ : List ℕ) (r : Opened) → n ≤ length m → Opens s m m′ r → State sh [] m′
-  opened-state m m′ r room o =
-      ended
+  opened-state : (m : List ℕ) (r : Opened) → Opens s l m r → State [] m r
+  opened-state m r p =
+      asks-same
       sh
-      []
       (Holding (computed sh))
+      (Pinned sh [])
+      l
       m
-      m′
       r
-      room
-      (λ M l. least-same (Holding (computed sh)) (Held []) onto back l)
-      (contradiction-same (Holding (computed sh)) (Held []) back)
+      (λ X h. holding-append X (computed sh) [] h (holding-nil X))
+      (λ X h. holding-left X (computed sh) [] h)
       (through
-      (λ why. (r ≡ RefusedMap why) × (m′ ≡ m))
-      (λ x. Ends x (Holding (computed x)) m m′ r)
-      (open-gate s m sh is room)
-      (o .promise))
-    where
-      onto : (X : Map) → Holding (computed sh) X → Held [] X
-      onto X h = holding-append X (computed sh) [] h (holding-nil X)
+      s
+      (λ why. (r ≡ RefusedMap why) × (m ≡ l))
+      (λ x. Ends x (Holding (computed x)) l m r)
+      (opens-through (record { accepted = is; room = enough }))
+      (p .promise))
 
-      back : (X : Map) → Held [] X → Holding (computed sh) X
-      back X h = holding-left X (computed sh) [] h
+  state-room : (ps : List Literal) (m : List ℕ) (r : Opened) → State ps m r → n ≤ length m
+  unfolding sheetMeant
+  state-room ps m r st = omega (arith, ends-written sh (Pinned sh ps) l m r enough st .long)
 
-  module _ (ps : List Literal) (m : List ℕ) (st : State sh ps m) (a v : ℕ) where
+  module _ (ps : List Literal) (m : List ℕ) (a v : ℕ) where
     abbrev p : Literal
-    p = pinned a v
+    p = signed (eqb v 1) a
 
     abbrev passes : Bool
     passes = inside n a && inside 2 v
 
     -- a refused pin
-    refused-pin : (m′ : List ℕ) (r : Opened) → passes ≡ false → Pins s m a v m′ r → m′ ≡ m
-    refused-pin m′ r e q =
-        through
-        (λ why. (r ≡ RefusedMap why) × (m′ ≡ m))
-        (λ x. PinEnds (isThrees (x .atoms) m) x m a v m′ r)
-        (pin-gate s m sh a v is (st .room) ∙ ap (λ (b : Bool). stopIf (not b) (refusal 11 0) (faultThen (mapFault n m) (go sh))) e)
-        (q .promise) .1
+    refused-pin :
+        (m′ : List ℕ) (r r₁ : Opened) → State ps m r → passes ≡ false → Pins s m a v m′ r₁ → State ps m′ (latest r r₁)
+    refused-pin m′ r r₁ st e q =
+        let
+        stop : (r₁ ≡ RefusedMap (refusal 11 0)) × (m′ ≡ m)
+        = through
+        s
+        (λ why. (r₁ ≡ RefusedMap why) × (m′ ≡ m))
+        (λ x. PinEnds (isContradiction (x .atoms) m) x m a v m′ r₁)
+        (pins-barred (record { accepted = is; room = state-room ps m r st }) a v barred)
+        (q .promise)
+        in
+        subst (λ (x : List ℕ). State ps x (latest r r₁)) (sym (stop .1)) (subst (State ps m) (sym (ap (latest r) (stop .0))) st)
+      where
+        barred : Within n a → Within 2 v → ⊥
+        barred w d = true≢false (sym (ap₂ _&&_ (inside-true w) (inside-true d)) ∙ e)
 
     -- an accepted one, on a map without a fault
-    accepted-pin : (m′ : List ℕ) (r : Opened) → passes ≡ true → mapFault n m ≡ none → Pins s m a v m′ r → PinEnds (isThrees n m) sh m a v m′ r
-    accepted-pin m′ r e f q =
+    accepted-pin :
+        (m′ : List ℕ) (r₁ : Opened) → n ≤ length m → passes ≡ true → mapFault n m ≡ n → Pins s m a v m′ r₁
+        → PinEnds (isContradiction n m) sh m a v m′ r₁
+    unfolding sheetMeant
+    accepted-pin m′ r₁ room e f q =
         through
-        (λ why. (r ≡ RefusedMap why) × (m′ ≡ m))
-        (λ x. PinEnds (isThrees (x .atoms) m) x m a v m′ r)
-        (pin-gate s m sh a v is (st .room)
-        ∙ ap (λ (b : Bool). stopIf (not b) (refusal 11 0) (faultThen (mapFault n m) (go sh))) e
-        ∙ ap (λ (x : Fault). faultThen x (go sh)) f)
+        s
+        (λ why. (r₁ ≡ RefusedMap why) × (m′ ≡ m))
+        (λ x. PinEnds (isContradiction (x .atoms) m) x m a v m′ r₁)
+        (pins-through
+        (record { accepted = is; room = room })
+        a
+        v
+        (inside-within n a (T-and-left (inside n a) (inside 2 v) (true-T e)))
+        (inside-within 2 v (T-and-right (inside n a) (inside 2 v) (true-T e)))
+        f)
         (q .promise)
 
     -- the pins so far and the new one
-    onto : (X : Map) → Holding (computed sh ++ ps ++ (p ∷ [])) X → Held (ps ++ (p ∷ [])) X
+    onto : (X : Map) → Holding (computed sh ++ ps ++ (p ∷ [])) X → Pinned sh (ps ++ (p ∷ [])) X
     onto X h =
         let f = holding-left X (computed sh ++ ps) (p ∷ []) h in
         holding-append
@@ -152,7 +142,7 @@ module _ (s : List ℕ) (sh : Sheet) (is : sheetOf s ≡ accepted sh) where
         (holding-left X (computed sh) ps f)
         (holding-append X ps (p ∷ []) (holding-right X (computed sh) ps f) (holding-right X (computed sh ++ ps) (p ∷ []) h))
 
-    back : (X : Map) → Held (ps ++ (p ∷ [])) X → Holding (computed sh ++ ps ++ (p ∷ [])) X
+    back : (X : Map) → Pinned sh (ps ++ (p ∷ [])) X → Holding (computed sh ++ ps ++ (p ∷ [])) X
     back X h =
         let g = holding-right X (computed sh) (ps ++ (p ∷ [])) h in
         holding-append
@@ -162,217 +152,224 @@ module _ (s : List ℕ) (sh : Sheet) (is : sheetOf s ≡ accepted sh) where
         (holding-append X (computed sh) ps (holding-left X (computed sh) (ps ++ (p ∷ [])) h) (holding-left X ps (p ∷ []) g))
         (holding-right X ps (p ∷ []) g)
 
-    fewer : (X : Map) → Held (ps ++ (p ∷ [])) X → Held ps X
-    fewer X h = holding-left X (computed sh ++ ps) (p ∷ []) (back X h)
+    -- a pin's question, on the least map that holds the pins before it, is that of all these pins
+    pinned-on :
+        (k : ℕ) (m′ : List ℕ) (r r₁ : Opened) → State ps m (ClosedWith k) → Ends sh (PinAsks sh m a v) m m′ r₁
+        → State (ps ++ (p ∷ [])) m′ (latest r r₁)
+    unfolding sheetMeant
+    pinned-on k m′ r (ClosedWith j) st e =
+        record {
+          least = least-same _ (Pinned sh (ps ++ (p ∷ []))) onto back (pins-after (computed sh ++ ps) (p ∷ []) (st .least) (e .least));
+          open′ = e .open′;
+          written = written-trans (st .written) (e .written);
+        }
+    pinned-on k m′ r Contradicted st e =
+        record {
+          none =
+              contradiction-same _ (Pinned sh (ps ++ (p ∷ []))) back (contradiction-after (computed sh ++ ps) (p ∷ []) (st .least) (e .none));
+          bytes = e .bytes ∙ ap (λ (past : List ℕ). replicate n 3 ++ past) (st .written .past);
+        }
+    pinned-on k m′ r (RefusedMap why) st e = absurd e
 
-    next-state : (m′ : List ℕ) (r : Opened) → passes ≡ true → Pins s m a v m′ r → State sh (ps ++ (p ∷ [])) m′
-    next-state m′ r e q = step (st .final)
+    next-state :
+        (m′ : List ℕ) (r r₁ : Opened) → State ps m r → passes ≡ true → Pins s m a v m′ r₁ → State (ps ++ (p ∷ [])) m′ (latest r r₁)
+    unfolding sheetMeant
+    next-state m′ (ClosedWith k) r₁ st e q =
+        let small = map-side n m (st .least .closed .isMap) in
+        pinned-on k m′ (ClosedWith k) r₁ st
+        (subst
+        (λ (b : Bool). PinEnds b sh m a v m′ r₁)
+        (map-stands n m small)
+        (accepted-pin m′ r₁ (state-room ps m (ClosedWith k) st) e (map-none n m small) q))
+    next-state m′ Contradicted r₁ st e q =
+        let
+        end : (r₁ ≡ Contradicted) × (m′ ≡ m)
+        = subst
+        (λ (b : Bool). PinEnds b sh m a v m′ r₁)
+        (threes-contradict n m some all)
+        (accepted-pin m′ r₁ (state-room ps m Contradicted st) e (threes-map n m some all) q)
+        in
+        subst
+        (State (ps ++ (p ∷ [])) m′)
+        (sym (ap (latest Contradicted) (end .0)))
+        (record {
+          none =
+              contradiction-same
+              (Pinned sh ps)
+              (Pinned sh (ps ++ (p ∷ [])))
+              (λ X h. holding-left X (computed sh ++ ps) (p ∷ []) (back X h))
+              (st .none);
+          bytes = end .1 ∙ st .bytes;
+        })
       where
-        step : Final sh ps m → State sh (ps ++ (p ∷ [])) m′
-        step (closed l) =
-            let small = map-side n m (l .closed .isMap) in
-            let
-            end : Ends sh (Asked sh m a v) m m′ r
-            = subst
-            (λ (b : Bool). PinEnds b sh m a v m′ r)
-            (proper-no-threes n m small)
-            (accepted-pin m′ r e (proper-no-fault n m small) q)
-            in
-            ended
-            sh
-            (ps ++ (p ∷ []))
-            (Asked sh m a v)
-            m
-            m′
-            r
-            (st .room)
-            (λ M k.
-            least-same
-            (Holding (computed sh ++ ps ++ (p ∷ [])))
-            (Held (ps ++ (p ∷ [])))
-            onto
-            back
-            (pins-after (computed sh ++ ps) (p ∷ []) l k))
-            (λ k.
-            contradiction-same
-            (Holding (computed sh ++ ps ++ (p ∷ [])))
-            (Held (ps ++ (p ∷ [])))
-            back
-            (contradiction-after (computed sh ++ ps) (p ∷ []) l k))
-            end
-        step (contradiction c all) =
-            let
-            end : (r ≡ Contradicted) × (m′ ≡ m)
-            = subst
-            (λ (b : Bool). PinEnds b sh m a v m′ r)
-            (threes-threes n m some all)
-            (accepted-pin m′ r e (threes-no-fault n m all) q)
-            in
-            record {
-              final =
-                  contradiction
-                  (contradiction-same (Held ps) (Held (ps ++ (p ∷ []))) fewer c)
-                  (λ i h. ap (λ (l : List ℕ). getD l i 0) (end .1) ∙ all i h);
-              room = subst (λ (l : List ℕ). n ≤ length l) (sym (end .1)) (st .room);
-            }
-          where
-            some : 0 < n
-            some =
-                let w = inside-within n a (T-and-left (inside n a) (inside 2 v) (subst T (sym e) tt)) in
-                omega (arith, w .low, w .high)
+        some : 0 < n
+        some =
+            let w = inside-within n a (T-and-left (inside n a) (inside 2 v) (true-T e)) in omega (arith, w .low, w .high)
 
-  -- the same pins in another list
-  state-same :
-      (ps ps′ : List Literal) (m : List ℕ) → ((X : Map) → Held ps X → Held ps′ X) → ((X : Map) → Held ps′ X → Held ps X)
-      → State sh ps m → State sh ps′ m
-  state-same ps ps′ m f g st = record { final = step (st .final); room = st .room }
-    where
-      step : Final sh ps m → Final sh ps′ m
-      step (closed l) = closed (least-same (Held ps) (Held ps′) f g l)
-      step (contradiction c all) = contradiction (contradiction-same (Held ps) (Held ps′) g c) all
-
-  -- what holds is the same, however the lists are joined
-  regroup : (qs ps : List Literal) (x : Literal) (X : Map) → Held (qs ++ (x ∷ []) ++ ps) X → Held (qs ++ (x ∷ ps)) X
-  regroup qs ps x X h = subst (λ (l : List Literal). Held l X) (append-assoc qs (x ∷ []) ps) h
-
-  regroup-back : (qs ps : List Literal) (x : Literal) (X : Map) → Held (qs ++ (x ∷ ps)) X → Held (qs ++ (x ∷ []) ++ ps) X
-  regroup-back qs ps x X h = subst (λ (l : List Literal). Held l X) (sym (append-assoc qs (x ∷ []) ps)) h
+        all : (i : ℕ) → i < n → getD m i 0 ≡ 3
+        all i h = ap (λ (x : List ℕ). getD x i 0) (st .bytes) ∙ threes-are n l i h
+    next-state m′ (RefusedMap why) r₁ st e q = absurd st
 
   -- a run of pins keeps the state
   pinned-state :
-      (qs : List Literal) {m : List ℕ} {ps : List Pin} {m′ : List ℕ} → State sh qs m → Pinning s m ps m′
-      → State sh (qs ++ acceptedOf n ps) m′
-  unfolding acceptedOf
-  pinned-state qs {m = m} st done = subst (λ (l : List Literal). State sh l m) (sym (append-nil qs)) st
-  pinned-state qs {m = m} {m′ = m′} st (next {m₁ = m₁} {p = p} {ps = ps} {r = r} q run) =
-      step (inside n (p .atom) && inside 2 (p .side)) refl (λ st′. pinned-state qs st′ run) (λ st′. pinned-state (qs ++ (pinned (p .atom) (p .side) ∷ [])) st′ run)
+      (qs : List Literal) {m : List ℕ} {r : Opened} {ps : List Pin} {m′ : List ℕ} {r′ : Opened} → State qs m r → PinCalls s m r ps m′ r′
+      → State (qs ++ acceptedOf n ps) m′ r′
+  unfolding acceptedOf pick
+  pinned-state qs {m′ = m′} {r′ = r′} st done = subst (λ (x : List Literal). State x m′ r′) (sym (append-nil qs)) st
+  pinned-state qs {m = m} {r = r} {m′ = m′} {r′ = r′} st (next {m₁ = m₁} {r₁ = r₁} {p = p} {ps = ps} q run) =
+      step
+      (inside n (p .atom) && inside 2 (p .side))
+      refl
+      (λ st′. pinned-state qs st′ run)
+      (λ st′. pinned-state (qs ++ (signed (eqb (p .side) 1) (p .atom) ∷ [])) st′ run)
     where
       x : Literal
-      x = pinned (p .atom) (p .side)
+      x = signed (eqb (p .side) 1) (p .atom)
 
       step :
-          (b : Bool) → (inside n (p .atom) && inside 2 (p .side)) ≡ b → (State sh qs m₁ → State sh (qs ++ acceptedOf n ps) m′)
-          → (State sh (qs ++ (x ∷ [])) m₁ → State sh (qs ++ (x ∷ []) ++ acceptedOf n ps) m′)
-          → State sh (qs ++ keepIf b x (acceptedOf n ps)) m′
+          (b : Bool) → (inside n (p .atom) && inside 2 (p .side)) ≡ b
+          → (State qs m₁ (latest r r₁) → State (qs ++ acceptedOf n ps) m′ r′)
+          → (State (qs ++ (x ∷ [])) m₁ (latest r r₁) → State (qs ++ (x ∷ []) ++ acceptedOf n ps) m′ r′)
+          → State (qs ++ pick b (x ∷ acceptedOf n ps) (acceptedOf n ps)) m′ r′
       step true e same more =
-          state-same
-          (qs ++ (x ∷ []) ++ acceptedOf n ps)
-          (qs ++ (x ∷ acceptedOf n ps))
-          m′
-          (regroup qs (acceptedOf n ps) x)
-          (regroup-back qs (acceptedOf n ps) x)
-          (more (next-state qs m st (p .atom) (p .side) m₁ r e q))
-      step false e same more =
-          same (subst (λ (l : List ℕ). State sh qs l) (sym (refused-pin qs m st (p .atom) (p .side) m₁ r e q)) st)
+          subst
+          (λ (y : List Literal). State y m′ r′)
+          (append-assoc qs (x ∷ []) (acceptedOf n ps))
+          (more (next-state qs m (p .atom) (p .side) m₁ r r₁ st e q))
+      step false e same more = same (refused-pin qs m (p .atom) (p .side) m₁ r r₁ st e q)
 
 -- where a run ends
-pub run-final : {s : List ℕ} {sh : Sheet} {ps : List Pin} {m : List ℕ} → Run s sh ps m → Final sh (acceptedOf (sh .atoms) ps) m
-run-final {s} {sh} {ps} {m} r =
-    pinned-state
-    s
-    sh
-    (r .is)
-    []
-    (opened-state s sh (r .is) (r .lent) (r .opened) (r .answer) (r .room) (r .opens))
-    (r .pins)
-    .final
+pub run-final :
+    {s : List ℕ} {sh : Sheet} {ps : List Pin} {m : List ℕ} {r : Opened} (run : Run s sh ps m r)
+    → Ends sh (Pinned sh (acceptedOf (sh .atoms) ps)) (run .lent) m r
+unfolding sheetMeant
+run-final {s} {sh} {ps} {m} {r} run =
+    let (o, is, e) = outlined s sh (run .is) in
+    subst
+    (λ (x : Sheet). Ends x (Pinned x (acceptedOf (x .atoms) ps)) (run .lent) m r)
+    e
+    (of o is (subst (λ (x : Sheet). x .atoms ≤ length (run .lent)) (sym e) (run .room)))
+  where
+    of :
+        (o : Outline) → sheetRead s ≡ Accepted o → o .atoms ≤ length (run .lent)
+        → Ends (sheetMeant s o) (Pinned (sheetMeant s o) (acceptedOf (o .atoms) ps)) (run .lent) m r
+    of o is room =
+        pinned-state s o is (run .lent) room [] (opened-state s o is (run .lent) room (run .opened) (run .answer) (run .opens)) (run .pins)
 
--- two sheets that differ only in the order of their rules, and the same pins
-module _ {sh sh′ : Sheet} (k : Shuffled sh sh′) {ps ps′ : List Literal} (same : SameSet ps ps′) where
-  computed-same : computed sh ≡ computed sh′
-  computed-same = ap₂ (λ (xs ys : List ℕ). map inn xs ++ map out ys) (k .computeIn) (k .computeOut)
-
-  pinned-onto : (X : Map) → Pinned sh ps X → Pinned sh′ ps′ X
-  pinned-onto X h =
-      holding-append
-      X
-      (computed sh′)
-      ps′
-      (subst (λ (l : List Literal). Holding l X) computed-same (holding-left X (computed sh) ps h))
-      (holding-set same X (holding-right X (computed sh) ps h))
-
-  pinned-back : (X : Map) → Pinned sh′ ps′ X → Pinned sh ps X
-  pinned-back X h =
-      holding-append
-      X
-      (computed sh)
-      ps
-      (subst (λ (l : List Literal). Holding l X) (sym computed-same) (holding-left X (computed sh′) ps′ h))
-      (holding-set (same-sym same) X (holding-right X (computed sh′) ps′ h))
-
-  least-onto :
-      (m : List ℕ) → Least (sh .rules) (sh .atoms) (Pinned sh ps) (side (sh .atoms) m)
-      → Least (sh′ .rules) (sh′ .atoms) (Pinned sh′ ps′) (side (sh′ .atoms) m)
-  least-onto m l =
-      subst
-      (λ (x : ℕ). Least (sh′ .rules) x (Pinned sh′ ps′) (side x m))
-      (k .atoms)
-      (least-same
-      (Pinned sh ps)
-      (Pinned sh′ ps′)
-      pinned-onto
-      pinned-back
-      (least-alike (shuffled (k .rules)) (Pinned sh ps) l))
-
-  contradiction-onto :
-      Contradiction (sh .rules) (sh .atoms) (Pinned sh ps) → Contradiction (sh′ .rules) (sh′ .atoms) (Pinned sh′ ps′)
-  contradiction-onto c =
-      subst
-      (λ (x : ℕ). Contradiction (sh′ .rules) x (Pinned sh′ ps′))
-      (k .atoms)
-      (contradiction-same
-      (Pinned sh ps)
-      (Pinned sh′ ps′)
-      pinned-back
-      (contradiction-alike (shuffled (k .rules)) (Pinned sh ps) c))
-
-  final-same : {m m′ : List ℕ} → Final sh ps m → Final sh′ ps′ m′ → (i : ℕ) → i < sh .atoms → getD m i 0 ≡ getD m′ i 0
-  final-same {m} {m′} (closed l) (closed l′) i h =
-      side-bytes (sh′ .atoms) m m′ (least-unique (least-onto m l) l′) i (subst (λ (x : ℕ). i < x) (k .atoms) h)
-  final-same {m} (closed l) (contradiction c all) i h = absurd (least-or-contradiction (least-onto m l) c)
-  final-same (contradiction c all) (closed l) i h = absurd (least-or-contradiction l (contradiction-onto c))
-  final-same (contradiction c all) (contradiction c′ all′) i h =
-      all i h ∙ sym (all′ i (subst (λ (x : ℕ). i < x) (k .atoms) h))
+-- the end of one question on two sheets that differ only in the order of their rules, for the same pins
+ends-shuffled :
+    {sh sh′ : Sheet} → Shuffled sh sh′ → {ps ps′ : List Literal} → SameSet ps ps′ → (m m′ : List ℕ) (r : Opened)
+    → Ends sh (Pinned sh ps) m m′ r → Ends sh′ (Pinned sh′ ps′) m m′ r
+ends-shuffled {sh} {sh′} k {ps} {ps′} same m m′ (ClosedWith j) e =
+    record {
+      least =
+          subst
+          (λ (x : ℕ). Least (Closed (sh′ .rules) (sh′ .atoms)) (Pinned sh′ ps′) (side x m′))
+          (k .atoms)
+          (least-shuffled k same (e .least));
+      open′ = e .open′ ∙ ap (λ (x : ℕ). undecided x m′) (k .atoms);
+      written = subst (λ (x : ℕ). Written x m m′) (k .atoms) (e .written);
+    }
+ends-shuffled k same m m′ Contradicted e =
+    record { none = contradiction-shuffled k same (e .none); bytes = e .bytes ∙ ap (λ (x : ℕ). threes x m) (k .atoms) }
+ends-shuffled k same m m′ (RefusedMap why) e = absurd e
 
 -- demand 3
-pub order :
-    {s s′ : List ℕ} {sh sh′ : Sheet} {ps ps′ : List Pin} {m m′ : List ℕ} → Run s sh ps m → Run s′ sh′ ps′ m′ → Shuffled sh sh′
-    → SameSet (acceptedOf (sh .atoms) ps) (acceptedOf (sh′ .atoms) ps′) → (i : ℕ) → i < sh .atoms → getD m i 0 ≡ getD m′ i 0
-order r r′ k same = final-same k same (run-final r) (run-final r′)
+module _
+    {s s′ : List ℕ}
+    {sh sh′ : Sheet}
+    {ps ps′ : List Pin}
+    {m m′ : List ℕ}
+    {r r′ : Opened}
+    (run : Run s sh ps m r)
+    (run′ : Run s′ sh′ ps′ m′ r′)
+    (k : Shuffled sh sh′)
+    (same : SameSet (acceptedOf (sh .atoms) ps) (acceptedOf (sh′ .atoms) ps′))
+  where
+    enough : sh′ .atoms ≤ length (run .lent)
+    enough = subst (λ (x : ℕ). x ≤ length (run .lent)) (k .atoms) (run .room)
 
--- forcing never loses an agreeing stable model: each that has the pins agrees with the map at the end
+    end : Ends sh′ (Pinned sh′ (acceptedOf (sh′ .atoms) ps′)) (run .lent) m r
+    end = ends-shuffled k same (run .lent) m r (run-final run)
+
+    pub order : (r ≡ r′) × ((i : ℕ) → i < sh′ .atoms → getD m i 0 ≡ getD m′ i 0)
+    order =
+        ends-alike
+        sh′
+        (Pinned sh′ (acceptedOf (sh′ .atoms) ps′))
+        (run .lent)
+        (run′ .lent)
+        m
+        m′
+        r
+        r′
+        enough
+        (run′ .room)
+        end
+        (run-final run′)
+
+    -- on the same lent map two such runs end in the same bytes, past n too
+    pub order-whole : run .lent ≡ run′ .lent → (r ≡ r′) × (m ≡ m′)
+    order-whole e =
+        ends-tight
+        sh′
+        (Pinned sh′ (acceptedOf (sh′ .atoms) ps′))
+        (run .lent)
+        m
+        m′
+        r
+        r′
+        enough
+        end
+        (subst (λ (l : List ℕ). Ends sh′ (Pinned sh′ (acceptedOf (sh′ .atoms) ps′)) l m′ r′) (sym e) (run-final run′))
+
+-- forcing never loses an agreeing stable model: where one has the pins, the run does not end in contradiction, and the map is below it
 pub loses-no-model :
-    {s : List ℕ} {sh : Sheet} {ps : List Pin} {m : List ℕ} → Run s sh ps m → (S : Set) → Model sh S
-    → Holding (acceptedOf (sh .atoms) ps) (total (sh .atoms) S) → side (sh .atoms) m ⊑ total (sh .atoms) S
-loses-no-model {s = s} {sh = sh} {ps = ps} {m = m} r S md h = step (run-final r)
+    {s : List ℕ} {sh : Sheet} {ps : List Pin} {m : List ℕ} {r : Opened} → Run s sh ps m r → (S : Set) → Model sh S
+    → Holding (acceptedOf (sh .atoms) ps) (total (sh .atoms) S)
+    → (r ≡ ClosedWith (undecided (sh .atoms) m)) × (side (sh .atoms) m ⊑ total (sh .atoms) S)
+loses-no-model {s = s} {sh = sh} {ps = ps} {m = m} {r = r} run S md h = step r (run-final run)
   where
     ok : Numbered sh
-    ok = numbered s sh (r .is)
+    ok = numbered s sh (run .is)
 
-    step : Final sh (acceptedOf (sh .atoms) ps) m → side (sh .atoms) m ⊑ total (sh .atoms) S
-    step (closed l) = loses-none ok (acceptedOf (sh .atoms) ps) l md h
-    step (contradiction c all) = absurd (none-lost ok (acceptedOf (sh .atoms) ps) c md h)
+    step :
+        (r : Opened) → Ends sh (Pinned sh (acceptedOf (sh .atoms) ps)) (run .lent) m r
+        → (r ≡ ClosedWith (undecided (sh .atoms) m)) × (side (sh .atoms) m ⊑ total (sh .atoms) S)
+    step (ClosedWith k) e = (ap ClosedWith (e .open′), loses-none ok (acceptedOf (sh .atoms) ps) (e .least) md h)
+    step Contradicted e = absurd (none-lost ok (acceptedOf (sh .atoms) ps) (e .none) md h)
+    step (RefusedMap why) e = absurd e
 
 -- "A pin already held on a closed map changes nothing."
 pub held-pin :
-    (s m m′ : List ℕ) (a v : ℕ) (r : Opened) (sh : Sheet) → pinGate s m a v ≡ go sh
-    → Closed (sh .rules) (sh .atoms) (side (sh .atoms) m) → Holding (pinned a v ∷ []) (side (sh .atoms) m) → Pins s m a v m′ r
-    → m′ ≡ m
-held-pin s m m′ a v r sh g c h q = step (isThrees (sh .atoms) m) (subst Going g (q .promise))
+    (s m m′ : List ℕ) (a v : ℕ) (r : Opened) (o : Outline) (t : Task) → pinGate s m a v ≡ Go o t
+    → Closed (sheetMeant s o .rules) (o .atoms) (side (o .atoms) m) → Holding (signed (eqb v 1) a ∷ []) (side (o .atoms) m)
+    → Pins s m a v m′ r → (r ≡ ClosedWith (undecided (o .atoms) m)) × (m′ ≡ m)
+unfolding sheetMeant
+held-pin s m m′ a v r o t g c h q =
+    ends-tight
+    sh
+    (PinAsks sh m a v)
+    m
+    m′
+    m
+    r
+    (ClosedWith (undecided (o .atoms) m))
+    (pin-through s m a v g .lent .room)
+    (subst
+    (λ (b : Bool). PinEnds b sh m a v m′ r)
+    (map-stands (o .atoms) m (map-side (o .atoms) m (c .isMap)))
+    (through
+    s
+    (λ why. (r ≡ RefusedMap why) × (m′ ≡ m))
+    (λ x. PinEnds (isContradiction (x .atoms) m) x m a v m′ r)
+    g
+    (q .promise)))
+    (record {
+      least = pin-held (side (o .atoms) m) (signed (eqb v 1) a ∷ []) c h;
+      open′ = refl;
+      written = record { long = refl; past = refl };
+    })
   where
-    Going : Gate → Type 0
-    Going x =
-        Upon x (λ why. (r ≡ RefusedMap why) × (m′ ≡ m)) (λ (t : Sheet). PinEnds (isThrees (t .atoms) m) t m a v m′ r)
-
-    as-it-was : ClosedMap sh (Asked sh m a v) m m (undecided (sh .atoms) m)
-    as-it-was =
-        record {
-          least = pin-held (side (sh .atoms) m) (pinned a v ∷ []) c h;
-          open′ = refl;
-          written = record { long = refl; past = refl };
-        }
-
-    step : (b : Bool) → PinEnds b sh m a v m′ r → m′ ≡ m
-    step true e = e .1
-    step false e =
-        ends-tight sh (Asked sh m a v) m m′ m r (ClosedWith (undecided (sh .atoms) m)) e as-it-was .1
+    sh : Sheet
+    sh = sheetMeant s o

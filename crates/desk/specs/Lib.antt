@@ -1,12 +1,4 @@
-pub mod Gate
 pub mod Promise
 pub mod Run
-pub mod Held
-pub mod Bytes
-pub mod Work
-pub mod Ready
-pub mod Models
-pub mod Scan
-pub mod Ask
-pub mod ReadParts
-pub mod Wrong
+pub mod inner
+pub mod shown

@@ -1,16 +1,15 @@
 // The calls: check, part, open, pin, solve, test and margin, on any lent bytes.
-mod bytes;
-mod held;
-pub mod margins;
-pub mod open;
-pub mod piece;
-pub mod pin;
-pub mod read;
-mod scan;
-pub mod solve;
-pub mod test;
-mod work;
+pub mod calls;
+pub mod hand;
+pub mod run;
 
+pub use calls::check;
+pub use calls::margin;
+pub use calls::open;
+pub use calls::part;
+pub use calls::pin;
+pub use calls::solve;
+pub use calls::test;
 use numbers::Refusal;
 
 // "Check a sheet": accepted with its atom count and its rule count.
@@ -20,7 +19,7 @@ pub enum Checked {
 }
 
 // A part of a rule: its value, or that the rule has no such part.
-pub enum Part {
+pub enum PartRead {
     Value(usize),
     Nothing,
     Refused(Refusal),
@@ -45,7 +44,7 @@ pub enum Tested {
     Refused(Refusal),
 }
 
-pub enum Margin {
+pub enum MarginRead {
     Is(i64),
     Refused(Refusal),
 }

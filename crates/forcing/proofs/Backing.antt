@@ -13,13 +13,13 @@ use Rattle.rules.specs.Forcing.{Closed, supports, supporters}
 use Rattle.rules.proofs.Sum.{tally-mono, count-some}
 use Rattle.rules.proofs.Maps.{reach-falls, decided-within}
 use Rattle.rules.proofs.Forced.{supports-head, supports-reach, to-supports, forced-second}
-use Rattle.table.specs.Words.{atomAt}
-use Rattle.table.specs.Rows.{headsAt, positivesAt, needAt, ruleAt}
+use Rattle.table.specs.inner.Words.{pairAtom}
+use Rattle.table.specs.inner.Rows.{headsAt, positivesAt, needAt, rowRule}
 use Rattle.table.proofs.Words.{atoms-has}
 use Rattle.weigh.specs.declared.Outcome.{Outcome}
 use Rattle.weigh.specs.declared.Outcome.the-variants.{Same}
-use Rattle.weigh.specs.Press.{aim, Pressed, Due, PressesBody}
-use Rattle.forcing.specs.Support.{Counts, Backed, Lone, NotLone, Tells, TellsAt, BackAsks, Backs}
+use Rattle.weigh.specs.inner.Press.{aim, Pressed, Due, PressesBody}
+use Rattle.forcing.specs.inner.Support.{Counts, Backed, Lone, NotLone, TellsLone, TellsAt, BackAsks, Backs}
 use Rattle.forcing.proofs.HeadScans.{Sofar, scan-more, scan-end}
 use Rattle.weigh.proofs.Bytes.{proper-map}
 use Rattle.weigh.proofs.Steps.{kept-refl, step-same, quieter}
@@ -38,14 +38,14 @@ module _ (n : ℕ) (M : Map) (counts : List ℕ) (a a′ : ℕ) (e : a ≡ a′)
 
 module _ (c : List ℕ) (n i : ℕ) (M : Map) (counts : List ℕ) where
   pub lone-here :
-      (j : ℕ) (b : Bool) → headsAt c i ≤ j → j < positivesAt c i → b ≡ true → TellsAt n M counts (atomAt c j) b → Tells c n i M
+      (j : ℕ) (b : Bool) → headsAt c i ≤ j → j < positivesAt c i → b ≡ true → TellsAt n M counts (pairAtom c j) b → TellsLone c n i M
       counts true
   lone-here j b l h e t =
-      let u : TellsAt n M counts (atomAt c j) true = subst (TellsAt n M counts (atomAt c j)) e t in
+      let u : TellsAt n M counts (pairAtom c j) true = subst (TellsAt n M counts (pairAtom c j)) e t in
       record {
         tells =
             record {
-              atom = atomAt c j;
+              atom = pairAtom c j;
               head = atoms-has c (headsAt c i) (positivesAt c i) j (record { low = l; high = h });
               holds = u .tells .0;
               alone = u .tells .1;
@@ -53,12 +53,12 @@ module _ (c : List ℕ) (n i : ℕ) (M : Map) (counts : List ℕ) where
       }
 
   pub lone-more :
-      (j : ℕ) (b : Bool) → headsAt c i ≤ j → b ≡ false → TellsAt n M counts (atomAt c j) b → Sofar c i (NotLone n M counts) j
+      (j : ℕ) (b : Bool) → headsAt c i ≤ j → b ≡ false → TellsAt n M counts (pairAtom c j) b → Sofar c i (NotLone n M counts) j
       → (headsAt c i ≤ j + 1) × Sofar c i (NotLone n M counts) (j + 1)
   lone-more j b l e t none =
-      scan-more c i (NotLone n M counts) j l (subst (TellsAt n M counts (atomAt c j)) e t .tells) none
+      scan-more c i (NotLone n M counts) j l (subst (TellsAt n M counts (pairAtom c j)) e t .tells) none
 
-  pub lone-nowhere : (j : ℕ) → positivesAt c i ≤ j → Sofar c i (NotLone n M counts) j → Tells c n i M counts false
+  pub lone-nowhere : (j : ℕ) → positivesAt c i ≤ j → Sofar c i (NotLone n M counts) j → TellsLone c n i M counts false
   lone-nowhere j b none = record { tells = scan-end c i (NotLone n M counts) j b none }
 
 -- a literal made true is on the side that its sign wants
@@ -74,11 +74,11 @@ fewer-supporters P M M′ a f =
 
 module _ (c : List ℕ) (n i : ℕ) (counts m : List ℕ) (asks : BackAsks c n i counts m) where
   -- nothing to add, and nothing done
-  left : ((P : List Rule) → Counts P n (side n m) counts → Backed P (ruleAt c i) (side n m)) → Backs c n i counts m m Same
+  left : ((P : List Rule) → Counts P n (side n m) counts → Backed P (rowRule c i) (side n m)) → Backs c n i counts m m Same
   left q =
       record {
         kept = kept-refl n m (asks .proper);
-        step = λ P b M₀ up k. step-same (Closed P n) n (λ M. Counts P n M counts → Backed P (ruleAt c i) M) m (asks .proper) (q P);
+        step = λ P b M₀ up k. step-same (Closed P n) n (λ M. Counts P n M counts → Backed P (rowRule c i) M) m (asks .proper) (q P);
       }
 
   within : (a : ℕ) → side n m a ≡ 1 → Within n a
@@ -97,44 +97,44 @@ module _ (c : List ℕ) (n i : ℕ) (counts m : List ℕ) (asks : BackAsks c n i
   counted-in P k a h =
       k a (within a h) ∙ ap (λ (b : Bool). counted b (supporters a (side n m) P)) (eq-eqb (side n m a) 1 h)
 
-  pub back-none : (b : Bool) → b ≡ false → Tells c n i (side n m) counts b → Backs c n i counts m m Same
+  pub back-none : (b : Bool) → b ≡ false → TellsLone c n i (side n m) counts b → Backs c n i counts m m Same
   back-none b e t =
-      let u : Tells c n i (side n m) counts false = subst (Tells c n i (side n m) counts) e t in
-      left (λ P k a h o g. absurd (u .tells a (supports-head a (side n m) (ruleAt c i) g) h (counted-in P k a h ∙ o)))
+      let u : TellsLone c n i (side n m) counts false = subst (TellsLone c n i (side n m) counts) e t in
+      left (λ P k a h o g. absurd (u .tells a (supports-head a (side n m) (rowRule c i) g) h (counted-in P k a h ∙ o)))
 
-  module _ (need most : ℕ) (en : need ≡ needAt c i) (er : most ≡ reach (ruleAt c i) (side n m)) where
+  module _ (need most : ℕ) (en : need ≡ needAt c i) (er : most ≡ reach (rowRule c i) (side n m)) where
     pub back-short : most < need → Backs c n i counts m m Same
     back-short h =
-        left (λ P k a e o g. absurd (omega (arith, supports-reach a (side n m) (ruleAt c i) g, en, er)))
+        left (λ P k a e o g. absurd (omega (arith, supports-reach a (side n m) (rowRule c i) g, en, er)))
 
     pub back-press :
-        (b : Bool) → b ≡ true → Tells c n i (side n m) counts b → need ≤ most → (m′ : List ℕ) (r : Outcome)
+        (b : Bool) → b ≡ true → TellsLone c n i (side n m) counts b → need ≤ most → (m′ : List ℕ) (r : Outcome)
         → PressesBody c n i (most - need + 1) true m m′ r → Backs c n i counts m m′ r
     back-press b e t h m′ r p =
         record {
           kept = p .kept;
           step =
               λ P b M₀ up k.
-              quieter (Closed P n) n (Pressed (ruleAt c i) (most - need + 1))
-              (λ M. Counts P n M counts → Backed P (ruleAt c i) M) m m′ r
+              quieter (Closed P n) n (Pressed (rowRule c i) (most - need + 1))
+              (λ M. Counts P n M counts → Backed P (rowRule c i) M) m m′ r
               (λ q g a o u v s l w z d. q s l w (omega arith) z)
               (p .step P (due P b M₀ up k));
         }
       where
         lone : Lone c n i (side n m) counts
-        lone = subst (Tells c n i (side n m) counts) e t .tells
+        lone = subst (TellsLone c n i (side n m) counts) e t .tells
 
         due :
-            (P : List Rule) → List·Memᴰ (ruleAt c i) P → (M₀ : Map) → M₀ ⊑ side n m → Counts P n M₀ counts
-            → Due P n (ruleAt c i) (most - need + 1) true (side n m)
+            (P : List Rule) → List·Memᴰ (rowRule c i) P → (M₀ : Map) → M₀ ⊑ side n m → Counts P n M₀ counts
+            → Due P n (rowRule c i) (most - need + 1) true (side n m)
         due P b M₀ up k s l w g z =
             record {
-              forced = λ X x f. forced-second f x (lone .atom) (lone .holds) one (ruleAt c i) b supp s l w z (omega arith) ∙ sym
+              forced = λ X x f. forced-second f x (lone .atom) (lone .holds) one (rowRule c i) b supp s l w z (omega arith) ∙ sym
                   (granted s);
             }
           where
-            supp : T (supports (lone .atom) (side n m) (ruleAt c i))
-            supp = to-supports (lone .atom) (side n m) (ruleAt c i) (lone .head) (omega arith)
+            supp : T (supports (lone .atom) (side n m) (rowRule c i))
+            supp = to-supports (lone .atom) (side n m) (rowRule c i) (lone .head) (omega arith)
 
             one : supporters (lone .atom) (side n m) P ≡ 1
             one =
@@ -142,5 +142,5 @@ module _ (c : List ℕ) (n i : ℕ) (counts m : List ℕ) (asks : BackAsks c n i
                   arith,
                   counted-one P M₀ k (lone .atom) (within (lone .atom) (lone .holds)) (lone .alone),
                   fewer-supporters P M₀ (side n m) (lone .atom) up,
-                  count-some (supports (lone .atom) (side n m)) P (ruleAt c i) b supp,
+                  count-some (supports (lone .atom) (side n m)) P (rowRule c i) b supp,
                 )

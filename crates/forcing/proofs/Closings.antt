@@ -13,18 +13,19 @@ use lib.ListN.{length, getD, take, drop, drop-of-length-le}
 use lib.Seq.{length-take-le, drop-cons, getD-take}
 use Rattle.rules.specs.Sum.{counted, tally}
 use Rattle.rules.specs.Rule.{Rule, Within}
-use Rattle.rules.specs.Map.{Map, side, _⊑_}
+use Rattle.rules.specs.Map.{Map, side, _⊑_, undecided}
 use Rattle.rules.specs.Forcing.{Closed, Least}
-use Rattle.table.specs.Rows.{ruleAt, rulesAt, Laid}
+use Rattle.table.specs.inner.Rows.{rowRule, tableRules, Laid}
 use Rattle.table.proofs.Rows.{Standing, rule-stands, rule-mem, laid-fits}
 use Rattle.weigh.specs.declared.Outcome.{Outcome}
 use Rattle.weigh.specs.declared.Outcome.the-variants.{Clash, Same, Grew}
 use Rattle.forcing.specs.declared.Closing.the-variants.{NoneHolds, ClosedWith}
-use Rattle.weigh.specs.Step.{Proper, Step, Till, isClash, isGrew, isSame, undecided}
-use Rattle.forcing.specs.Heads.{Settled, SettlesAll}
-use Rattle.forcing.specs.Support.{Counts, Backed, BacksAll}
-use Rattle.forcing.specs.Ground.{ListsFounded, Drops, Unless}
-use Rattle.forcing.specs.Close.{LowestAt, Summed, Forcing, BackedAll, FoundedAll, Closes, ClosesMap}
+use Rattle.weigh.specs.inner.Step.{Step, Till, isClash, isGrew, isSame}
+use Rattle.rules.specs.inner.Bytes.{MapBytes}
+use Rattle.forcing.specs.inner.Heads.{Settled, SettlesAll}
+use Rattle.forcing.specs.inner.Support.{Counts, Backed, BacksAll}
+use Rattle.forcing.specs.inner.Ground.{ListsFounded, Drops, Unless}
+use Rattle.forcing.specs.inner.Rounds.{LowestAt, Summed, Forcing, BackedAll, FoundedAll, Closes, ClosesMap}
 use Rattle.rules.proofs.Bytes.{side-at}
 use Rattle.weigh.proofs.Bytes.{proper-map, equal?}
 use Rattle.weigh.proofs.Steps.{kept-refl, kept-trans, forces-refl, forces-trans, step-same, quieter, step-joined}
@@ -49,19 +50,19 @@ after-same Good n Q Q′ m m′ m″ Grew q e s t = absurd (false≢true e)
 module _ (c : List ℕ) (n count : ℕ) where
   -- the counts were those of the map where the pass began
   pub backed :
-      (m m′ counts : List ℕ) (r : Outcome) → Counts (rulesAt c count) n (side n m) counts → BacksAll c n count counts count m m′ r
+      (m m′ counts : List ℕ) (r : Outcome) → Counts (tableRules c count) n (side n m) counts → BacksAll c n count counts count m m′ r
       → Forcing c n count (BackedAll c count) m m′ r
   backed m m′ counts r k s =
-      quieter (Closed (rulesAt c count) n) n
-      (Till (λ k M. Counts (rulesAt c count) n M counts → Backed (rulesAt c count) (ruleAt c k) M) 0 count) (BackedAll c count)
+      quieter (Closed (tableRules c count) n) n
+      (Till (λ k M. Counts (tableRules c count) n M counts → Backed (tableRules c count) (rowRule c k) M) 0 count) (BackedAll c count)
       m m′ r
       (λ t i l h. t i l h k) s
 
   -- rule 2 makes undecided literals true, and there is none
-  pub backed-whole : Laid c n count → (m : List ℕ) → Proper n m → (i : ℕ) → LowestAt n m i → i ≡ n → Forcing c n count (BackedAll c count) m m Same
+  pub backed-whole : Laid c n count → (m : List ℕ) → MapBytes n m → (i : ℕ) → LowestAt n m i → i ≡ n → Forcing c n count (BackedAll c count) m m Same
   backed-whole laid m p i low e =
-      step-same (Closed (rulesAt c count) n) n (BackedAll c count) m p
-      (λ k _ h a _ _ _ s l b z _. undecided-none (laid-fits c n count laid .literal (ruleAt c k) (rule-mem c count k h) s l b) z)
+      step-same (Closed (tableRules c count) n) n (BackedAll c count) m p
+      (λ k _ h a _ _ _ s l b z _. undecided-none (laid-fits c n count laid .literal (rowRule c k) (rule-mem c count k h) s l b) z)
     where
       undecided-none : {a : ℕ} → Within n a → side n m a ≡ 0 → ⊥
       undecided-none {a} w z = low .lower (a - 1) (omega (arith, e, w .low, w .high)) (sym (side-at n m a w) ∙ z)
@@ -70,8 +71,8 @@ module _ (c : List ℕ) (n count : ℕ) where
       (m m′ u : List ℕ) (r : Outcome) → ListsFounded c n count m u → Drops n u m (n + 1) m′ r
       → Forcing c n count (FoundedAll c n count) m m′ r
   dropped m m′ u r l s =
-      quieter (Closed (rulesAt c count) n) n (Till (λ b. Unless (side n u) b 1 2) 1 (n + 1)) (FoundedAll c n count) m m′ r quiet
-      (s .step (rulesAt c count) (unfounded-out c n count m u l))
+      quieter (Closed (tableRules c count) n) n (Till (λ b. Unless (side n u) b 1 2) 1 (n + 1)) (FoundedAll c n count) m m′ r quiet
+      (s .step (tableRules c count) (unfounded-out c n count m u l))
     where
       quiet : Till (λ b. Unless (side n u) b 1 2) 1 (n + 1) (side n m) → FoundedAll c n count (side n m)
       quiet t a w o =
@@ -79,9 +80,9 @@ module _ (c : List ℕ) (n count : ℕ) where
 
   -- where each rule is quiet the map is closed
   all-closed :
-      (m : List ℕ) → Proper n m
-      → (Till (λ k. Settled (ruleAt c k)) 0 count (side n m) × BackedAll c count (side n m)) × FoundedAll c n count (side n m)
-      → Closed (rulesAt c count) n (side n m)
+      (m : List ℕ) → MapBytes n m
+      → (Till (λ k. Settled (rowRule c k)) 0 count (side n m) × BackedAll c count (side n m)) × FoundedAll c n count (side n m)
+      → Closed (tableRules c count) n (side n m)
   all-closed m p q =
       record {
         isMap = proper-map n m p;
@@ -94,49 +95,49 @@ module _ (c : List ℕ) (n count : ℕ) where
       settled : (r : Rule) → Standing c 0 count r → Settled r (side n m)
       settled r s = subst (λ (x : Rule). Settled x (side n m)) (sym (s .same)) (q .0 .0 (s .row) (s .among .low) (s .among .high))
 
-      backs : (r : Rule) → Standing c 0 count r → Backed (rulesAt c count) r (side n m)
+      backs : (r : Rule) → Standing c 0 count r → Backed (tableRules c count) r (side n m)
       backs r s =
-          subst (λ (x : Rule). Backed (rulesAt c count) x (side n m)) (sym (s .same))
+          subst (λ (x : Rule). Backed (tableRules c count) x (side n m)) (sym (s .same))
           (q .0 .1 (s .row) (s .among .low) (s .among .high))
 
   Settling : Map → Type 0
-  Settling = Till (λ k. Settled (ruleAt c k)) 0 count
+  Settling = Till (λ k. Settled (rowRule c k)) 0 count
 
   -- a round: three passes, or the first of them that adds something
   pub round-whole :
-      (m m₁ m₂ m₃ : List ℕ) (r q o : Outcome) → Proper n m → isSame r ≡ true → Forcing c n count (BackedAll c count) m m₁ r
+      (m m₁ m₂ m₃ : List ℕ) (r q o : Outcome) → MapBytes n m → isSame r ≡ true → Forcing c n count (BackedAll c count) m m₁ r
       → isSame q ≡ true → Forcing c n count (FoundedAll c n count) m₁ m₂ q → SettlesAll c n count m₂ m₃ o
-      → Forcing c n count (Closed (rulesAt c count) n) m m₃ o
+      → Forcing c n count (Closed (tableRules c count) n) m m₃ o
   unfolding Settling
   round-whole m m₁ m₂ m₃ r q o p er t eq u s =
-      quieter (Closed (rulesAt c count) n) n (λ M. (BackedAll c count M × FoundedAll c n count M) × Settling M)
-      (Closed (rulesAt c count) n) m m₃ o
+      quieter (Closed (tableRules c count) n) n (λ M. (BackedAll c count M × FoundedAll c n count M) × Settling M)
+      (Closed (tableRules c count) n) m m₃ o
       (λ x. all-closed m p ((x .1, x .0 .0), x .0 .1))
-      (after-same (Closed (rulesAt c count) n) n (λ M. BackedAll c count M × FoundedAll c n count M) Settling m m₂ m₃ q o eq
-      (after-same (Closed (rulesAt c count) n) n (BackedAll c count) (FoundedAll c n count) m m₁ m₂ r q er t u) s)
+      (after-same (Closed (tableRules c count) n) n (λ M. BackedAll c count M × FoundedAll c n count M) Settling m m₂ m₃ q o eq
+      (after-same (Closed (tableRules c count) n) n (BackedAll c count) (FoundedAll c n count) m m₁ m₂ r q er t u) s)
 
   pub round-second :
       (m m₁ m₂ : List ℕ) (r q : Outcome) → isSame r ≡ true → Forcing c n count (BackedAll c count) m m₁ r → isSame q ≡ false
-      → Forcing c n count (FoundedAll c n count) m₁ m₂ q → Forcing c n count (Closed (rulesAt c count) n) m m₂ q
+      → Forcing c n count (FoundedAll c n count) m₁ m₂ q → Forcing c n count (Closed (tableRules c count) n) m m₂ q
   round-second m m₁ m₂ r q er t eq u =
-      loud-any (Closed (rulesAt c count) n) n (λ M. BackedAll c count M × FoundedAll c n count M) (Closed (rulesAt c count) n) m m₂ q
+      loud-any (Closed (tableRules c count) n) n (λ M. BackedAll c count M × FoundedAll c n count M) (Closed (tableRules c count) n) m m₂ q
       eq
-      (after-same (Closed (rulesAt c count) n) n (BackedAll c count) (FoundedAll c n count) m m₁ m₂ r q er t u)
+      (after-same (Closed (tableRules c count) n) n (BackedAll c count) (FoundedAll c n count) m m₁ m₂ r q er t u)
 
   -- rounds until none adds anything
   module _ (m : List ℕ) where
-    pub closes-begin : Proper n m → Closes c n count m m
-    closes-begin p = record { kept = kept-refl n m p; forces = forces-refl (Closed (rulesAt c count) n) (side n m) }
+    pub closes-begin : MapBytes n m → Closes c n count m m
+    closes-begin p = record { kept = kept-refl n m p; forces = forces-refl (Closed (tableRules c count) n) (side n m) }
 
     pub closes-more :
         (m′ m″ : List ℕ) (r : Outcome) → isGrew r ≡ true → Closes c n count m m′
-        → Forcing c n count (Closed (rulesAt c count) n) m′ m″ r → Closes c n count m m″ × (undecided n m″ < undecided n m′)
+        → Forcing c n count (Closed (tableRules c count) n) m′ m″ r → Closes c n count m m″ × (undecided n m″ < undecided n m′)
     closes-more m′ m″ Clash e f s = absurd (false≢true e)
     closes-more m′ m″ Same e f s = absurd (false≢true e)
     closes-more m′ m″ Grew e f s = (
       record {
         kept = kept-trans n m m′ m″ (f .kept) (s .kept);
-        forces = forces-trans (Closed (rulesAt c count) n) (f .forces)
+        forces = forces-trans (Closed (tableRules c count) n) (f .forces)
             (s .went .forces);
       },
       s .went .fewer,
@@ -144,7 +145,7 @@ module _ (c : List ℕ) (n count : ℕ) where
 
     pub closes-none :
         (m′ m″ : List ℕ) (r : Outcome) → isClash r ≡ true → Closes c n count m m′
-        → Forcing c n count (Closed (rulesAt c count) n) m′ m″ r → ClosesMap c n count m m″ NoneHolds
+        → Forcing c n count (Closed (tableRules c count) n) m′ m″ r → ClosesMap c n count m m″ NoneHolds
     closes-none m′ m″ Clash e f s =
         record { kept = kept-trans n m m′ m″ (f .kept) (s .kept); answers = λ X x h. s .went .none X x (f .forces .sound X x h) }
     closes-none m′ m″ Same e f s = absurd (false≢true e)
@@ -152,13 +153,13 @@ module _ (c : List ℕ) (n count : ℕ) where
 
     pub closes-with :
         (m′ m″ : List ℕ) (r : Outcome) (k : ℕ) → isGrew r ≡ false → isClash r ≡ false → Closes c n count m m′
-        → Forcing c n count (Closed (rulesAt c count) n) m′ m″ r → k ≡ undecided n m″ → ClosesMap c n count m m″ (ClosedWith k)
+        → Forcing c n count (Closed (tableRules c count) n) m′ m″ r → k ≡ undecided n m″ → ClosesMap c n count m m″ (ClosedWith k)
     closes-with m′ m″ Clash k e g f s u = absurd (false≢true (sym g))
     closes-with m′ m″ Same k e g f s u =
         record {
           kept = kept-trans n m m′ m″ (f .kept) (s .kept);
           answers = (
-            subst (λ (x : List ℕ). Least (rulesAt c count) n (λ X. side n m ⊑ X) (side n x)) (sym (s .went .0))
+            subst (λ (x : List ℕ). Least (Closed (tableRules c count) n) (λ X. side n m ⊑ X) (side n x)) (sym (s .went .0))
                 (record { closed = s .went .1; holding = f .forces .keeps; below = λ X x h. f .forces .sound X x h }),
             u,
           );

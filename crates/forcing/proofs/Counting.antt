@@ -17,11 +17,11 @@ use Rattle.rules.specs.Forcing.{supports, supporters}
 use Rattle.rules.proofs.Tests.{eq-T, T-true, T-false, T-same, and-T, T-and-left, T-and-right, decided, T-eq, T-ne}
 use Rattle.rules.proofs.Sum.{counted-most}
 use Rattle.rules.proofs.Forced.{supports-head, supports-reach}
-use Rattle.table.specs.Words.{atomAt, atoms}
-use Rattle.table.specs.Rows.{headsAt, positivesAt, needAt, ruleAt, rulesFrom, rulesAt, Row}
-use Rattle.table.proofs.Words.{Listed, atoms-listed, has-done, has-next}
-use Rattle.table.proofs.Rows.{heads-apart, rules-done, rules-next}
-use Rattle.forcing.specs.Support.{Counts, Small, Adds, Counting, Heading, Stirs}
+use Rattle.table.specs.inner.Words.{pairAtom, segAtoms}
+use Rattle.table.specs.inner.Rows.{headsAt, positivesAt, needAt, rowRule, rowRules, tableRules, Row}
+use Rattle.table.proofs.Words.{AtomFound, atoms-listed, has-done, has-next}
+use Rattle.table.proofs.Rows.{heads-apart, rules-done, rows-next}
+use Rattle.forcing.specs.inner.Support.{Counts, Small, Adds, Counting, Heading, Stirs}
 use Rattle.rules.proofs.Bytes.{written-same, written-other}
 use Rattle.weigh.proofs.Bytes.{equal?}
 
@@ -79,27 +79,27 @@ module _ (c : List ℕ) (n i : ℕ) (row : Row c n i) where
   -- a head counts once
   once :
       (a j : ℕ) → headsAt c i ≤ j → j < positivesAt c i
-      → counted (has a (atoms c j (positivesAt c i))) 1
-      ≡ counted (eqb a (atomAt c j)) 1 + counted (has a (atoms c (j + 1) (positivesAt c i))) 1
+      → counted (has a (segAtoms c j (positivesAt c i))) 1
+      ≡ counted (eqb a (pairAtom c j)) 1 + counted (has a (segAtoms c (j + 1) (positivesAt c i))) 1
   once a j l h =
       ap (λ (b : Bool). counted b 1) (has-next a c j (positivesAt c i) h)
-      ∙ ⊎-elim first rest (decided (eqb a (atomAt c j)))
+      ∙ ⊎-elim first rest (decided (eqb a (pairAtom c j)))
     where
       later : Bool
-      later = has a (atoms c (j + 1) (positivesAt c i))
+      later = has a (segAtoms c (j + 1) (positivesAt c i))
 
-      again : a ≡ atomAt c j → T later → ⊥
+      again : a ≡ pairAtom c j → T later → ⊥
       again e t =
-          let f : Listed c (j + 1) (positivesAt c i) a = atoms-listed c (j + 1) (positivesAt c i) a t in
+          let f : AtomFound c (j + 1) (positivesAt c i) a = atoms-listed c (j + 1) (positivesAt c i) a t in
           heads-apart c n i row j (f .at) l (omega (arith, f .among .low)) (f .among .high) (sym e ∙ f .same)
 
-      first : T (eqb a (atomAt c j)) → counted (eqb a (atomAt c j) || later) 1 ≡ counted (eqb a (atomAt c j)) 1 + counted later 1
-      first t = simp (T-true (eqb a (atomAt c j)) t, T-false later (again (T-eq t)))
+      first : T (eqb a (pairAtom c j)) → counted (eqb a (pairAtom c j) || later) 1 ≡ counted (eqb a (pairAtom c j)) 1 + counted later 1
+      first t = simp (T-true (eqb a (pairAtom c j)) t, T-false later (again (T-eq t)))
 
       rest :
-          T (not (eqb a (atomAt c j)))
-          → counted (eqb a (atomAt c j) || later) 1 ≡ counted (eqb a (atomAt c j)) 1 + counted later 1
-      rest t = simp (ne-eqb a (atomAt c j) (T-ne t)) (omega arith)
+          T (not (eqb a (pairAtom c j)))
+          → counted (eqb a (pairAtom c j) || later) 1 ≡ counted (eqb a (pairAtom c j)) 1 + counted later 1
+      rest t = simp (ne-eqb a (pairAtom c j) (T-ne t)) (omega arith)
 
   module _ (M : Map) (counts₀ : List ℕ) where
     pub heading-begin : (j : ℕ) → j ≡ headsAt c i → Heading c n i M counts₀ j counts₀
@@ -107,7 +107,7 @@ module _ (c : List ℕ) (n i : ℕ) (row : Row c n i) where
         record {
           long = refl;
           low = omega arith;
-          sofar = λ a w. ap (λ (x : ℕ). side n counts₀ a + counted (is 1 M a && has a (atoms c x (positivesAt c i))) 1) e;
+          sofar = λ a w. ap (λ (x : ℕ). side n counts₀ a + counted (is 1 M a && has a (segAtoms c x (positivesAt c i))) 1) e;
         }
 
     -- no count is more than one above where it began
@@ -121,13 +121,13 @@ module _ (c : List ℕ) (n i : ℕ) (row : Row c n i) where
                 arith,
                 h .sofar a w,
                 small .small a w,
-                counted-most (is 1 M a && has a (atoms c (headsAt c i) (positivesAt c i))) 1,
+                counted-most (is 1 M a && has a (segAtoms c (headsAt c i) (positivesAt c i))) 1,
               );
         }
 
     pub heading-more :
         (j : ℕ) (counts counts′ : List ℕ) → j < positivesAt c i → length counts′ ≡ length counts → Heading c n i M counts₀ j counts
-        → Adds n (λ a. is 1 M a && eqb a (atomAt c j)) counts counts′ → Heading c n i M counts₀ (j + 1) counts′
+        → Adds n (λ a. is 1 M a && eqb a (pairAtom c j)) counts counts′ → Heading c n i M counts₀ (j + 1) counts′
     heading-more j counts counts′ b long h p =
         record {
           long = long ∙ h .long;
@@ -138,19 +138,19 @@ module _ (c : List ℕ) (n i : ℕ) (row : Row c n i) where
                 arith,
                 h .sofar a w,
                 p .adds a w,
-                under (is 1 M a) (has a (atoms c j (positivesAt c i))) (eqb a (atomAt c j))
-                    (has a (atoms c (j + 1) (positivesAt c i))) (once a j (h .low) b),
+                under (is 1 M a) (has a (segAtoms c j (positivesAt c i))) (eqb a (pairAtom c j))
+                    (has a (segAtoms c (j + 1) (positivesAt c i))) (once a j (h .low) b),
               );
         }
 
     pub heading-end :
         (j : ℕ) (counts : List ℕ) → positivesAt c i ≤ j → Heading c n i M counts₀ j counts
-        → Adds n (λ a. is 1 M a && has a (atoms c (headsAt c i) (positivesAt c i))) counts₀ counts
+        → Adds n (λ a. is 1 M a && has a (segAtoms c (headsAt c i) (positivesAt c i))) counts₀ counts
     heading-end j counts b h =
         record {
           adds =
               λ a w.
-              let z : counted (is 1 M a && has a (atoms c j (positivesAt c i))) 1 ≡ 0 =
+              let z : counted (is 1 M a && has a (segAtoms c j (positivesAt c i))) 1 ≡ 0 =
               ap (λ (x : Bool). counted (is 1 M a && x) 1) (has-done a c j (positivesAt c i) b)
               ∙ ap (λ (x : Bool). counted x 1) (and-false (is 1 M a))
               in
@@ -160,61 +160,61 @@ module _ (c : List ℕ) (n i : ℕ) (row : Row c n i) where
   -- a rule adds one to each head that is in, where it can still give it
   module _ (M : Map) (counts counts′ : List ℕ) where
     -- what passes no test is not counted
-    idle : ((a : ℕ) → M a ≡ 1 → T (supports a M (ruleAt c i)) → ⊥) → Adds n (λ a. is 1 M a && supports a M (ruleAt c i)) counts counts
+    idle : ((a : ℕ) → M a ≡ 1 → T (supports a M (rowRule c i)) → ⊥) → Adds n (λ a. is 1 M a && supports a M (rowRule c i)) counts counts
     idle f =
         record {
           adds =
               λ a w.
-              let z : counted (is 1 M a && supports a M (ruleAt c i)) 1 ≡ 0 =
+              let z : counted (is 1 M a && supports a M (rowRule c i)) 1 ≡ 0 =
               ap (λ (b : Bool). counted b 1)
-              (T-false (is 1 M a && supports a M (ruleAt c i))
-              (λ t. f a (T-eq (T-and-left (is 1 M a) (supports a M (ruleAt c i)) t))
-              (T-and-right (is 1 M a) (supports a M (ruleAt c i)) t)))
+              (T-false (is 1 M a && supports a M (rowRule c i))
+              (λ t. f a (T-eq (T-and-left (is 1 M a) (supports a M (rowRule c i)) t))
+              (T-and-right (is 1 M a) (supports a M (rowRule c i)) t)))
               in
               omega arith;
         }
 
     pub rule-still :
-        (b : Bool) → b ≡ false → Stirs (ruleAt c i) M b → Adds n (λ a. is 1 M a && supports a M (ruleAt c i)) counts counts
+        (b : Bool) → b ≡ false → Stirs (rowRule c i) M b → Adds n (λ a. is 1 M a && supports a M (rowRule c i)) counts counts
     rule-still b e t =
-        let u : Stirs (ruleAt c i) M false = subst (Stirs (ruleAt c i) M) e t in
-        idle (λ a h s. u .tells a (supports-head a M (ruleAt c i) s) h)
+        let u : Stirs (rowRule c i) M false = subst (Stirs (rowRule c i) M) e t in
+        idle (λ a h s. u .tells a (supports-head a M (rowRule c i) s) h)
 
-    module _ (need most : ℕ) (en : need ≡ needAt c i) (er : most ≡ reach (ruleAt c i) M) where
-      pub rule-short : most < need → Adds n (λ a. is 1 M a && supports a M (ruleAt c i)) counts counts
-      rule-short h = idle (λ a _ s. omega (arith, supports-reach a M (ruleAt c i) s, en, er))
+    module _ (need most : ℕ) (en : need ≡ needAt c i) (er : most ≡ reach (rowRule c i) M) where
+      pub rule-short : most < need → Adds n (λ a. is 1 M a && supports a M (rowRule c i)) counts counts
+      rule-short h = idle (λ a _ s. omega (arith, supports-reach a M (rowRule c i) s, en, er))
 
       pub rule-long :
-          need ≤ most → Adds n (λ a. is 1 M a && has a (atoms c (headsAt c i) (positivesAt c i))) counts counts′
-          → Adds n (λ a. is 1 M a && supports a M (ruleAt c i)) counts counts′
+          need ≤ most → Adds n (λ a. is 1 M a && has a (segAtoms c (headsAt c i) (positivesAt c i))) counts counts′
+          → Adds n (λ a. is 1 M a && supports a M (rowRule c i)) counts counts′
       rule-long h p =
           record {
             adds =
                 λ a w.
                 let z :
-                counted (is 1 M a && supports a M (ruleAt c i)) 1 ≡ counted (is 1 M a && has a (ruleAt c i .heads)) 1 =
-                ap (λ (b : Bool). counted (is 1 M a && (has a (ruleAt c i .heads) && b)) 1)
-                (le-leb (needAt c i) (reach (ruleAt c i) M) (omega arith))
-                ∙ ap (λ (b : Bool). counted (is 1 M a && b) 1) (and-true (has a (ruleAt c i .heads)))
+                counted (is 1 M a && supports a M (rowRule c i)) 1 ≡ counted (is 1 M a && has a (rowRule c i .heads)) 1 =
+                ap (λ (b : Bool). counted (is 1 M a && (has a (rowRule c i .heads) && b)) 1)
+                (le-leb (needAt c i) (reach (rowRule c i) M) (omega arith))
+                ∙ ap (λ (b : Bool). counted (is 1 M a && b) 1) (and-true (has a (rowRule c i .heads)))
                 in
                 omega (arith, p .adds a w);
           }
 
 -- at most as many rules give an atom as there are
-few-supporters : (c : List ℕ) (M : Map) (a k i : ℕ) → supporters a M (rulesFrom c k i) ≤ k
-unfolding rulesFrom tally
+few-supporters : (c : List ℕ) (M : Map) (a k i : ℕ) → supporters a M (rowRules c k i) ≤ k
+unfolding rowRules tally
 few-supporters c M a zero i = omega arith
-few-supporters c M a (suc k) i = omega (arith, counted-most (supports a M (ruleAt c i)) 1, few-supporters c M a k (suc i))
+few-supporters c M a (suc k) i = omega (arith, counted-most (supports a M (rowRule c i)) 1, few-supporters c M a k (suc i))
 
 module _ (c : List ℕ) (n count : ℕ) (M : Map) where
   supporters-next :
       (a i : ℕ) → i < count
-      → supporters a M (rulesFrom c (count - i) i)
-      ≡ counted (supports a M (ruleAt c i)) 1 + supporters a M (rulesFrom c (count - (i + 1)) (i + 1))
+      → supporters a M (rowRules c (count - i) i)
+      ≡ counted (supports a M (rowRule c i)) 1 + supporters a M (rowRules c (count - (i + 1)) (i + 1))
   unfolding tally
-  supporters-next a i h = ap (supporters a M) (rules-next c i count h)
+  supporters-next a i h = ap (supporters a M) (rows-next c i count h)
 
-  supporters-done : (a i : ℕ) → count ≤ i → supporters a M (rulesFrom c (count - i) i) ≡ 0
+  supporters-done : (a i : ℕ) → count ≤ i → supporters a M (rowRules c (count - i) i) ≡ 0
   unfolding tally
   supporters-done a i h = ap (supporters a M) (rules-done c i count h)
 
@@ -227,8 +227,8 @@ module _ (c : List ℕ) (n count : ℕ) (M : Map) where
 
       whole :
           (a : ℕ)
-          → counted (is 1 M a) (supporters a M (rulesFrom c (count - 0) 0)) ≡ counted (is 1 M a) (supporters a M (rulesAt c count))
-      whole a = ap (λ (k : ℕ). counted (is 1 M a) (supporters a M (rulesFrom c k 0))) none
+          → counted (is 1 M a) (supporters a M (rowRules c (count - 0) 0)) ≡ counted (is 1 M a) (supporters a M (tableRules c count))
+      whole a = ap (λ (k : ℕ). counted (is 1 M a) (supporters a M (rowRules c k 0))) none
 
   pub counting-small : (i : ℕ) (counts : List ℕ) → count ≤ rulesMost → Counting c n count M i counts → Small n 0 counts
   counting-small i counts h p =
@@ -239,32 +239,32 @@ module _ (c : List ℕ) (n count : ℕ) (M : Map) where
             omega (
               arith,
               p .sofar a w,
-              counted-most (is 1 M a) (supporters a M (rulesAt c count)),
+              counted-most (is 1 M a) (supporters a M (tableRules c count)),
               few-supporters c M a count 0,
             );
       }
 
   pub counting-more :
       (i : ℕ) (counts counts′ : List ℕ) → i < count → length counts′ ≡ length counts → Counting c n count M i counts
-      → Adds n (λ a. is 1 M a && supports a M (ruleAt c i)) counts counts′ → Counting c n count M (i + 1) counts′
+      → Adds n (λ a. is 1 M a && supports a M (rowRule c i)) counts counts′ → Counting c n count M (i + 1) counts′
   counting-more i counts counts′ h e p q =
       record {
         room = omega (arith, p .room);
         sofar =
             λ a w.
             let f :
-            counted (is 1 M a) (supporters a M (rulesFrom c (count - i) i))
-            ≡ counted (is 1 M a && supports a M (ruleAt c i)) 1
-            + counted (is 1 M a) (supporters a M (rulesFrom c (count - (i + 1)) (i + 1))) =
+            counted (is 1 M a) (supporters a M (rowRules c (count - i) i))
+            ≡ counted (is 1 M a && supports a M (rowRule c i)) 1
+            + counted (is 1 M a) (supporters a M (rowRules c (count - (i + 1)) (i + 1))) =
             ap (counted (is 1 M a)) (supporters-next a i h)
-            ∙ under-sum (is 1 M a) (supports a M (ruleAt c i)) (supporters a M (rulesFrom c (count - (i + 1)) (i + 1)))
+            ∙ under-sum (is 1 M a) (supports a M (rowRule c i)) (supporters a M (rowRules c (count - (i + 1)) (i + 1)))
             in
             omega (arith, p .sofar a w, q .adds a w);
       }
 
-  pub counting-end : (i : ℕ) (counts : List ℕ) → count ≤ i → Counting c n count M i counts → Counts (rulesAt c count) n M counts
+  pub counting-end : (i : ℕ) (counts : List ℕ) → count ≤ i → Counting c n count M i counts → Counts (tableRules c count) n M counts
   counting-end i counts h p a w =
-      let z : counted (is 1 M a) (supporters a M (rulesFrom c (count - i) i)) ≡ 0 =
+      let z : counted (is 1 M a) (supporters a M (rowRules c (count - i) i)) ≡ 0 =
       ap (counted (is 1 M a)) (supporters-done a i h) ∙ none (is 1 M a)
       in
       omega (arith, p .sofar a w)

@@ -10,18 +10,19 @@ use lib.Dec.{T, eqb}
 use Rattle.rules.specs.Sum.{has}
 use Rattle.rules.specs.Rule.{Rule, Weighted, Within, body}
 use Rattle.rules.specs.Stable.{Set, value}
-use Rattle.rules.specs.Map.{Map, side, is, isnt, _⊑_}
+use Rattle.rules.specs.Map.{Map, side, is, isnt, _⊑_, undecided}
 use Rattle.rules.specs.Forcing.{Closed, Grounds, Founded}
 use Rattle.rules.proofs.Tests.{eq-T, T-eq, ne-T, T-ne}
 use Rattle.rules.proofs.Value.{by, value-same}
 use Rattle.rules.proofs.Maps.{want-decided}
 use Rattle.rules.proofs.Forced.{forced-fourth}
-use Rattle.table.specs.Rows.{ruleAt, rulesAt}
+use Rattle.table.specs.inner.Rows.{rowRule, tableRules}
 use Rattle.table.proofs.Rows.{Standing, rule-stands}
 use Rattle.weigh.specs.declared.Outcome.{Outcome}
 use Rattle.weigh.specs.declared.Outcome.the-variants.{Clash, Same, Grew}
-use Rattle.weigh.specs.Step.{Concludes, Proper, Kept, Till, both, isClash, isGrew, undecided}
-use Rattle.forcing.specs.Ground.{PutsUnless, Unless, Grounding, Grounded, GroundsAll, Blank, Founding, ListsFounded, Drops}
+use Rattle.weigh.specs.inner.Step.{Concludes, Kept, Till, both, isClash, isGrew}
+use Rattle.rules.specs.inner.Bytes.{MapBytes}
+use Rattle.forcing.specs.inner.Ground.{PutsUnless, Unless, Grounding, Grounded, GroundsAll, Blank, Founding, ListsFounded, Drops}
 use Rattle.weigh.proofs.Steps.{kept-refl, kept-trans, forces-refl, forces-trans, concludes-on, clash-any, steps-begin, steps-more, steps-end}
 use Rattle.forcing.proofs.Groundings.{sided-out, kept-unless, step-unless}
 
@@ -68,8 +69,8 @@ blank-below : (n : ℕ) (u : List ℕ) → Blank n u → (X : Map) → side n u 
 blank-below n u b X = record { keeps = λ s a e. absurd (want-decided s (sym e ∙ b .blank a)) }
 
 module _ (c : List ℕ) (n count : ℕ) (m u : List ℕ) where
-  pub founding-begin : Proper n u → Founding c n count m u u
-  founding-begin p = record { kept = kept-refl n u p; forces = forces-refl (Grounding (rulesAt c count) (side n m)) (side n u) }
+  pub founding-begin : MapBytes n u → Founding c n count m u u
+  founding-begin p = record { kept = kept-refl n u p; forces = forces-refl (Grounding (tableRules c count) (side n m)) (side n u) }
 
   pub founding-more :
       (u′ u″ : List ℕ) (r : Outcome) → isGrew r ≡ true → Founding c n count m u u′ → GroundsAll c n count m u′ u″ r
@@ -79,29 +80,29 @@ module _ (c : List ℕ) (n count : ℕ) (m u : List ℕ) where
   founding-more u′ u″ Grew e f s = (
     record {
       kept = kept-trans n u u′ u″ (f .kept) (s .kept);
-      forces = forces-trans (Grounding (rulesAt c count) (side n m)) (f .forces) (s .went .forces);
+      forces = forces-trans (Grounding (tableRules c count) (side n m)) (f .forces) (s .went .forces);
     },
     s .went .fewer,
   )
 
   module _ (b : Blank n u) where
-    below : (u′ : List ℕ) → Founding c n count m u u′ → (X : Map) → Grounding (rulesAt c count) (side n m) X → side n u′ ⊑ X
+    below : (u′ : List ℕ) → Founding c n count m u u′ → (X : Map) → Grounding (tableRules c count) (side n m) X → side n u′ ⊑ X
     below u′ f X x = f .forces .sound X x (blank-below n u b X)
 
     lists :
-        (u′ : List ℕ) → Founding c n count m u u′ → Till (λ k. Grounded (ruleAt c k) (side n m)) 0 count (side n u′)
+        (u′ : List ℕ) → Founding c n count m u u′ → Till (λ k. Grounded (rowRule c k) (side n m)) 0 count (side n u′)
         → ListsFounded c n count m u′
     lists u′ f quiet =
         record { proper = f .kept .proper; listed = listed; grounds = record { noneOut = noneOut; holdsHeads = holdsHeads } }
       where
-        listed : (a : ℕ) → side n u′ a ≡ 1 → Founded (rulesAt c count) (side n m) a
-        listed = below-founded (rulesAt c count) (side n m) (side n u′) (below u′ f)
+        listed : (a : ℕ) → side n u′ a ≡ 1 → Founded (tableRules c count) (side n m) a
+        listed = below-founded (tableRules c count) (side n m) (side n u′) (below u′ f)
 
         noneOut : (a : ℕ) → T (is 1 (side n u′) a) → side n m a ≡ 2 → ⊥
-        noneOut a t e = T-ne (listed a (T-eq t) (isnt 2 (side n m)) (all-grounds (rulesAt c count) (side n m))) e
+        noneOut a t e = T-ne (listed a (T-eq t) (isnt 2 (side n m)) (all-grounds (tableRules c count) (side n m))) e
 
         holdsHeads :
-            (r : Rule) → List·Memᴰ r (rulesAt c count) → (a : ℕ) → T (has a (r .heads)) → (side n m a ≡ 2 → ⊥)
+            (r : Rule) → List·Memᴰ r (tableRules c count) → (a : ℕ) → T (has a (r .heads)) → (side n m a ≡ 2 → ⊥)
             → r .need ≤ value r (is 1 (side n u′)) (isnt 1 (side n m)) → T (is 1 (side n u′) a)
         holdsHeads r q a t o k =
             let s : Standing c 0 count r = rule-stands c count r q in
@@ -116,14 +117,14 @@ module _ (c : List ℕ) (n count : ℕ) (m u : List ℕ) where
     founding-end u′ u″ Clash e f s =
         absurd (s .went .none (marks (isnt 2 (side n m))) (good) (below u′ f (marks (isnt 2 (side n m))) good))
       where
-        good : Grounding (rulesAt c count) (side n m) (marks (isnt 2 (side n m)))
-        good = marks-grounds (rulesAt c count) (side n m) (isnt 2 (side n m)) (all-grounds (rulesAt c count) (side n m))
+        good : Grounding (tableRules c count) (side n m) (marks (isnt 2 (side n m)))
+        good = marks-grounds (tableRules c count) (side n m) (isnt 2 (side n m)) (all-grounds (tableRules c count) (side n m))
     founding-end u′ u″ Same e f s =
         subst (ListsFounded c n count m) (sym (s .went .0)) (lists u′ f (s .went .1))
     founding-end u′ u″ Grew e f s = absurd (false≢true (sym e))
 
 -- dropping the atoms that are not in U
-module _ (n : ℕ) (u m : List ℕ) (p : Proper n m) where
+module _ (n : ℕ) (u m : List ℕ) (p : MapBytes n m) where
   pub drop-begin : Drops n u m 1 m Same
   drop-begin = record { kept = kept-refl n m p; step = λ P due. steps-begin (Closed P n) n (λ b. Unless (side n u) b 1 2) 1 m p }
 
@@ -168,6 +169,6 @@ module _ (n : ℕ) (u m : List ℕ) (p : Proper n m) where
 -- an atom that is not in U is out in every closed map
 pub unfounded-out :
     (c : List ℕ) (n count : ℕ) (m u : List ℕ) → ListsFounded c n count m u → (b : ℕ) → Within n b → (side n u b ≡ 1 → ⊥)
-    → Concludes (Closed (rulesAt c count) n) (side n m) b 2
+    → Concludes (Closed (tableRules c count) n) (side n m) b 2
 unfounded-out c n count m u l b w f =
     record { forced = λ X x up. forced-fourth up x b w (λ g. f (T-eq (g (is 1 (side n u)) (l .grounds)))) }

@@ -6,8 +6,8 @@ use mathlib.Core.List.{List}
 use native.Mathlib.Omega.{arith}
 use Rattle.rules.specs.Map.{Map}
 use Rattle.weigh.specs.declared.Outcome.{Outcome}
-use Rattle.weigh.specs.Step.{Step, Till}
-use Rattle.forcing.specs.Pass.{placed}
+use Rattle.weigh.specs.inner.Step.{Step, Till}
+use Rattle.forcing.specs.inner.Pass.{placed}
 
 pub placed-less : (down : Bool) (count i : ℕ) → i < count → placed down count i < count
 unfolding placed

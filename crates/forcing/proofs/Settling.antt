@@ -12,14 +12,15 @@ use Rattle.rules.specs.Map.{Map, side, want, sure}
 use Rattle.rules.specs.Forcing.{Closed}
 use Rattle.rules.proofs.Tests.{true-T}
 use Rattle.rules.proofs.Forced.{forced-first, forced-third}
-use Rattle.table.specs.Words.{atomAt}
-use Rattle.table.specs.Rows.{headsAt, positivesAt, kindAt, needAt, ruleAt, Row}
-use Rattle.table.proofs.Words.{Listed, atoms-listed, atoms-has}
+use Rattle.table.specs.inner.Words.{pairAtom}
+use Rattle.table.specs.inner.Rows.{headsAt, positivesAt, kindAt, needAt, rowRule, Row}
+use Rattle.table.proofs.Words.{AtomFound, atoms-listed, atoms-has}
 use Rattle.weigh.specs.declared.Outcome.{Outcome}
 use Rattle.weigh.specs.declared.Outcome.the-variants.{Same}
-use Rattle.weigh.specs.Step.{Concludes, Proper, Puts}
-use Rattle.weigh.specs.Press.{aim, Pressed, Due, PressesBody}
-use Rattle.forcing.specs.Heads.{Settled, Settles, HeadAsks}
+use Rattle.weigh.specs.inner.Step.{Concludes, Puts}
+use Rattle.rules.specs.inner.Bytes.{MapBytes}
+use Rattle.weigh.specs.inner.Press.{aim, Pressed, Due, PressesBody}
+use Rattle.forcing.specs.inner.Heads.{Settled, Settles, HeadAsks}
 use Rattle.weigh.proofs.Steps.{kept-refl, kept-put, step-same, quieter, step-put}
 
 -- a literal made false is on the side that its sign does not want
@@ -29,10 +30,10 @@ denied false = refl
 
 module _ (c : List ℕ) (n i : ℕ) (m : List ℕ) where
   -- nothing to add, and nothing done
-  left : Proper n m → Settled (ruleAt c i) (side n m) → Settles c n i m m Same
-  left p q = record { kept = kept-refl n m p; step = λ P b. step-same (Closed P n) n (Settled (ruleAt c i)) m p q }
+  left : MapBytes n m → Settled (rowRule c i) (side n m) → Settles c n i m m Same
+  left p q = record { kept = kept-refl n m p; step = λ P b. step-same (Closed P n) n (Settled (rowRule c i)) m p q }
 
-  pub settle-choice : (b : Bool) → b ≡ chooses (kindAt c i) → b ≡ true → Proper n m → Settles c n i m m Same
+  pub settle-choice : (b : Bool) → b ≡ chooses (kindAt c i) → b ≡ true → MapBytes n m → Settles c n i m m Same
   settle-choice b e t p =
       left p
       (record {
@@ -42,35 +43,35 @@ module _ (c : List ℕ) (n i : ℕ) (m : List ℕ) where
 
   module _ (row : Row c n i) (gives : T (not (chooses (kindAt c i)))) where
     -- its one head
-    pub head-within : Within n (atomAt c (headsAt c i))
+    pub head-within : Within n (pairAtom c (headsAt c i))
     head-within =
         row .heads .pairs (headsAt c i) (omega arith) (omega (arith, row .single gives)) .within
 
-    head-has : T (has (atomAt c (headsAt c i)) (ruleAt c i .heads))
+    head-has : T (has (pairAtom c (headsAt c i)) (rowRule c i .heads))
     head-has =
         atoms-has c (headsAt c i) (positivesAt c i) (headsAt c i)
         (record { low = omega arith; high = omega (arith, row .single gives) })
 
-    head-only : (a : ℕ) → T (has a (ruleAt c i .heads)) → a ≡ atomAt c (headsAt c i)
+    head-only : (a : ℕ) → T (has a (rowRule c i .heads)) → a ≡ pairAtom c (headsAt c i)
     head-only a t =
-        let l : Listed c (headsAt c i) (positivesAt c i) a = atoms-listed c (headsAt c i) (positivesAt c i) a t in
+        let l : AtomFound c (headsAt c i) (positivesAt c i) a = atoms-listed c (headsAt c i) (positivesAt c i) a t in
         let e : l .at ≡ headsAt c i = omega (arith, row .single gives, l .among .low, l .among .high) in
-        l .same ∙ ap (atomAt c) e
+        l .same ∙ ap (pairAtom c) e
 
     -- a head that is in settles the rule
-    settled-in : (M : Map) → M (atomAt c (headsAt c i)) ≡ 1 → Settled (ruleAt c i) M
+    settled-in : (M : Map) → M (pairAtom c (headsAt c i)) ≡ 1 → Settled (rowRule c i) M
     settled-in M e =
         record {
           first = λ g k a h. ap M (head-only a h) ∙ e;
           third = λ g a h o s l b z k. omega (arith, sym o ∙ ap M (head-only a h) ∙ e);
         }
 
-    pub settle-in : (x head : ℕ) → head ≡ atomAt c (headsAt c i) → x ≡ side n m head → x ≡ 1 → Proper n m → Settles c n i m m Same
+    pub settle-in : (x head : ℕ) → head ≡ pairAtom c (headsAt c i) → x ≡ side n m head → x ≡ 1 → MapBytes n m → Settles c n i m m Same
     settle-in x head eh ex e p = left p (settled-in (side n m) (ap (side n m) (sym eh) ∙ sym ex ∙ e))
 
   module _ (head x need held : ℕ) (asks : HeadAsks c n i head x m) (en : need ≡ needAt c i)
-      (es : held ≡ sure (ruleAt c i) (side n m)) where
-    out : (a : ℕ) → T (has a (ruleAt c i .heads)) → side n m a ≡ x
+      (es : held ≡ sure (rowRule c i) (side n m)) where
+    out : (a : ℕ) → T (has a (rowRule c i .heads)) → side n m a ≡ x
     out a t = ap (side n m) (head-only (asks .row) (asks .gives) a t ∙ sym (asks .its)) ∙ sym (asks .stands)
 
     -- sure meets the need: the head is in
@@ -78,28 +79,28 @@ module _ (c : List ℕ) (n i : ℕ) (m : List ℕ) where
     settle-give h m′ r s =
         record {
           kept =
-              kept-put n m (atomAt c (headsAt c i)) 1 (asks .proper) within (record { low = omega arith; high = omega arith })
+              kept-put n m (pairAtom c (headsAt c i)) 1 (asks .proper) within (record { low = omega arith; high = omega arith })
               m′ r puts;
           step =
               λ P b.
-              quieter (Closed P n) n (λ M. M (atomAt c (headsAt c i)) ≡ 1) (Settled (ruleAt c i)) m m′ r
+              quieter (Closed P n) n (λ M. M (pairAtom c (headsAt c i)) ≡ 1) (Settled (rowRule c i)) m m′ r
               (settled-in (asks .row) (asks .gives) (side n m))
-              (step-put (Closed P n) n m (atomAt c (headsAt c i)) 1 (asks .proper) within
+              (step-put (Closed P n) n m (pairAtom c (headsAt c i)) 1 (asks .proper) within
               (record { low = omega arith; high = omega arith }) (concl P b) m′ r puts);
         }
       where
-        within : Within n (atomAt c (headsAt c i))
+        within : Within n (pairAtom c (headsAt c i))
         within = head-within (asks .row) (asks .gives)
 
-        puts : Puts n m (atomAt c (headsAt c i)) 1 m′ r
+        puts : Puts n m (pairAtom c (headsAt c i)) 1 m′ r
         puts = subst (λ (b : ℕ). Puts n m b 1 m′ r) (asks .its) s
 
-        concl : (P : List Rule) → List·Memᴰ (ruleAt c i) P → Concludes (Closed P n) (side n m) (atomAt c (headsAt c i)) 1
+        concl : (P : List Rule) → List·Memᴰ (rowRule c i) P → Concludes (Closed P n) (side n m) (pairAtom c (headsAt c i)) 1
         concl P b =
             record {
               forced =
                   λ X x f.
-                  forced-first f x (ruleAt c i) b (asks .gives) (omega arith) (atomAt c (headsAt c i))
+                  forced-first f x (rowRule c i) b (asks .gives) (omega arith) (pairAtom c (headsAt c i))
                   (head-has (asks .row) (asks .gives));
             }
 
@@ -110,21 +111,21 @@ module _ (c : List ℕ) (n i : ℕ) (m : List ℕ) where
         record {
           kept = s .kept;
           step =
-              λ P b. quieter (Closed P n) n (Pressed (ruleAt c i) (need - held)) (Settled (ruleAt c i)) m m′ r quiet
+              λ P b. quieter (Closed P n) n (Pressed (rowRule c i) (need - held)) (Settled (rowRule c i)) m m′ r quiet
               (s .step P (due P b));
         }
       where
-        due : (P : List Rule) → List·Memᴰ (ruleAt c i) P → Due P n (ruleAt c i) (need - held) false (side n m)
+        due : (P : List Rule) → List·Memᴰ (rowRule c i) P → Due P n (rowRule c i) (need - held) false (side n m)
         due P b s l q k z =
             record {
               forced =
                   λ X y f.
-                  forced-third f y (ruleAt c i) b (asks .gives) (atomAt c (headsAt c i)) (head-has (asks .row) (asks .gives))
-                  (out (atomAt c (headsAt c i)) (head-has (asks .row) (asks .gives)) ∙ o) s l q z (omega arith)
+                  forced-third f y (rowRule c i) b (asks .gives) (pairAtom c (headsAt c i)) (head-has (asks .row) (asks .gives))
+                  (out (pairAtom c (headsAt c i)) (head-has (asks .row) (asks .gives)) ∙ o) s l q z (omega arith)
                   ∙ sym (denied s);
             }
 
-        quiet : Pressed (ruleAt c i) (need - held) (side n m) → Settled (ruleAt c i) (side n m)
+        quiet : Pressed (rowRule c i) (need - held) (side n m) → Settled (rowRule c i) (side n m)
         quiet p =
             record {
               first = λ g k. absurd (omega arith);

@@ -1,5 +1,1 @@
-pub mod Pass
-pub mod Heads
-pub mod Support
-pub mod Ground
-pub mod Close
+pub mod inner

@@ -1,19 +1,18 @@
 // Forcing rule 4: the atoms that the rules can still found, and those that they cannot.
 use super::pass::place;
 use weigh::Outcome;
+use weigh::is_clash;
+use weigh::is_grew;
+use weigh::join;
+use weigh::put;
 use weigh::side_of;
-use weigh::step::is_clash;
-use weigh::step::is_grew;
-use weigh::step::join;
-use weigh::step::put;
 use weigh::weigh_rule;
 ghost use Prim.Native.Nat.{_+_};
 ghost use Rattle.rules.specs.Map.{side};
-ghost use Rattle.table.specs.Words.{atomAt, Pair};
-ghost use Rattle.table.specs.Rows.{ruleAt, positivesAt, Laid};
-ghost use Rattle.weigh.specs.Weigh.{Room};
-ghost use Rattle.weigh.specs.Step.{Proper};
-ghost use Rattle.forcing.specs.Ground.{PutsUnless, UnlessAsks, Lacks, GroundAsks, GroundsHeads, GroundsRule, GroundsAll, Blank, ListsFounded, Drops, Misses};
+ghost use Rattle.table.specs.inner.Words.{pairAtom, Pair};
+ghost use Rattle.table.specs.inner.Rows.{rowRule, positivesAt, Laid};
+ghost use Rattle.rules.specs.inner.Bytes.{Room, MapBytes};
+ghost use Rattle.forcing.specs.inner.Ground.{PutsUnless, UnlessAsks, Lacks, GroundAsks, GroundsHeads, GroundsRule, GroundsAll, Blank, ListsFounded, Drops, Misses};
 
 // Put atom a on a side in w, unless it has the given side in m.
 fn put_unless(n: u32, m: &[u8], a: u32, given: u8, v: u8, w: &mut [u8]) -> Outcome
@@ -46,7 +45,7 @@ fn ground_heads(code: &[u32], n: u32, i: u32, m: &[u8], u: &mut [u8]) -> Outcome
 // Is the atom of pair j not out, and not in u?
 fn misses(code: &[u32], n: u32, j: u32, m: &[u8], u: &[u8]) -> bool
     requires { ⌜ Pair (now code) n j × (Room n (now m) × Room n (now u)) ⌝ }
-    ensures { λ r. ⌜ Misses (side n (now (m .entry))) (side n (now (u .entry))) (atomAt (now (code .entry)) j) r ⌝ }
+    ensures { λ r. ⌜ Misses (side n (now (m .entry))) (side n (now (u .entry))) (pairAtom (now (code .entry)) j) r ⌝ }
 {
     let a = table::atom_at(code, j);
     if side_of(m, n, a) == 2 {
@@ -61,7 +60,7 @@ fn misses(code: &[u32], n: u32, j: u32, m: &[u8], u: &[u8]) -> bool
 // May a head of rule i that is not out be missing in u?
 fn lacks(code: &[u32], n: u32, i: u32, m: &[u8], u: &[u8]) -> bool
     requires { ⌜ GroundAsks (now code) n i (now m) (now u) ⌝ }
-    ensures { λ r. ⌜ Lacks (ruleAt (now (code .entry)) i) (side n (now (m .entry))) (side n (now (u .entry))) r ⌝ }
+    ensures { λ r. ⌜ Lacks (rowRule (now (code .entry)) i) (side n (now (m .entry))) (side n (now (u .entry))) r ⌝ }
 {
     let end = table::positives_at(code, i);
     let mut j = table::heads_at(code, i);
@@ -91,7 +90,7 @@ fn ground(code: &[u32], n: u32, i: u32, m: &[u8], u: &mut [u8]) -> Outcome
 
 // Every rule once, one after another, up or down.
 fn ground_all(code: &[u32], n: u32, count: u32, down: bool, m: &[u8], u: &mut [u8]) -> Outcome
-    requires { ⌜ Laid (now code) n count × (Proper n (now m) × Proper n (now u)) ⌝ }
+    requires { ⌜ Laid (now code) n count × (MapBytes n (now m) × MapBytes n (now u)) ⌝ }
     ensures { λ r. ⌜ GroundsAll (now (code .entry)) n count (now (m .entry)) (now (u .entry)) (now (u .exit)) r ⌝ }
 {
     let mut all = Outcome::Same;
@@ -106,7 +105,7 @@ fn ground_all(code: &[u32], n: u32, count: u32, down: bool, m: &[u8], u: &mut [u
 
 // Set the bytes of u, all 0 at first, to 1 at exactly the founded atoms.
 pub fn founded(code: &[u32], n: u32, count: u32, m: &[u8], u: &mut [u8])
-    requires { ⌜ Laid (now code) n count × (Proper n (now m) × Blank n (now u)) ⌝ }
+    requires { ⌜ Laid (now code) n count × (MapBytes n (now m) × Blank n (now u)) ⌝ }
     ensures { λ r. ⌜ ListsFounded (now (code .entry)) n count (now (m .entry)) (now (u .exit)) ⌝ }
 {
     let mut down = false;
@@ -122,7 +121,7 @@ pub fn founded(code: &[u32], n: u32, count: u32, m: &[u8], u: &mut [u8])
 
 // Every atom that is not in u is out.
 pub fn drop_all(n: u32, u: &[u8], m: &mut [u8]) -> Outcome
-    requires { ⌜ Proper n (now u) × Proper n (now m) ⌝ }
+    requires { ⌜ MapBytes n (now u) × MapBytes n (now m) ⌝ }
     ensures { λ r. ⌜ Drops n (now (u .entry)) (now (m .entry)) (n + 1) (now (m .exit)) r ⌝ }
 {
     let mut all = Outcome::Same;

@@ -1,15 +1,15 @@
 // Forcing rules 1 and 3: what a rule that must give its head asks of the head and of the body.
 use super::pass::place;
 use weigh::Outcome;
-use weigh::press::press_body;
+use weigh::is_clash;
+use weigh::join;
+use weigh::press_body;
+use weigh::put;
 use weigh::side_of;
-use weigh::step::is_clash;
-use weigh::step::join;
-use weigh::step::put;
 use weigh::sure;
-ghost use Rattle.table.specs.Rows.{Row, Laid};
-ghost use Rattle.weigh.specs.Step.{Proper};
-ghost use Rattle.forcing.specs.Heads.{HeadAsks, Settles, SettlesAll};
+ghost use Rattle.table.specs.inner.Rows.{Row, Laid};
+ghost use Rattle.rules.specs.inner.Bytes.{MapBytes};
+ghost use Rattle.forcing.specs.inner.Heads.{HeadAsks, Settles, SettlesAll};
 
 // Rule i, which is no choice rule and whose head has side x.
 fn settle_head(code: &[u32], n: u32, i: u32, head: u32, x: u8, m: &mut [u8]) -> Outcome
@@ -29,7 +29,7 @@ fn settle_head(code: &[u32], n: u32, i: u32, head: u32, x: u8, m: &mut [u8]) -> 
 
 // Rule i: a body that is sure gives the head, and a head that is out denies the body.
 fn settle(code: &[u32], n: u32, i: u32, m: &mut [u8]) -> Outcome
-    requires { ⌜ Row (now code) n i × Proper n (now m) ⌝ }
+    requires { ⌜ Row (now code) n i × MapBytes n (now m) ⌝ }
     ensures { λ r. ⌜ Settles (now (code .entry)) n i (now (m .entry)) (now (m .exit)) r ⌝ }
 {
     if table::is_choice(code, i) {
@@ -45,7 +45,7 @@ fn settle(code: &[u32], n: u32, i: u32, m: &mut [u8]) -> Outcome
 
 // Every rule, one after another, up or down.
 pub fn settle_all(code: &[u32], n: u32, count: u32, down: bool, m: &mut [u8]) -> Outcome
-    requires { ⌜ Laid (now code) n count × Proper n (now m) ⌝ }
+    requires { ⌜ Laid (now code) n count × MapBytes n (now m) ⌝ }
     ensures { λ r. ⌜ SettlesAll (now (code .entry)) n count (now (m .entry)) (now (m .exit)) r ⌝ }
 {
     let mut all = Outcome::Same;

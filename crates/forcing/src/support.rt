@@ -1,10 +1,10 @@
 // Forcing rule 2: an atom that is in and that one rule alone can still give.
 use weigh::Outcome;
-use weigh::press::press_body;
+use weigh::is_clash;
+use weigh::join;
+use weigh::press_body;
 use weigh::reach;
 use weigh::side_of;
-use weigh::step::is_clash;
-use weigh::step::join;
 ghost use Prim.Native.Nat.{ℕ};
 ghost use mathlib.Core.Path.{_≡_};
 ghost use mathlib.Core.Bool.{_&&_};
@@ -13,11 +13,11 @@ ghost use Rattle.rules.specs.Sum.{has};
 ghost use Rattle.rules.specs.Rule.{Within};
 ghost use Rattle.rules.specs.Map.{side, is};
 ghost use Rattle.rules.specs.Forcing.{supports};
-ghost use Rattle.table.specs.Words.{atomAt, atoms, Pair};
-ghost use Rattle.table.specs.Rows.{headsAt, positivesAt, ruleAt, rulesAt, Row, Laid};
-ghost use Rattle.weigh.specs.Weigh.{Room, Side};
-ghost use Rattle.weigh.specs.Step.{Proper};
-ghost use Rattle.forcing.specs.Support.{Counts, CountAsks, Small, Adds, Stirs, Tells, TellsAt, BackAsks, Backs, BacksAll};
+ghost use Rattle.table.specs.inner.Words.{pairAtom, segAtoms, Pair};
+ghost use Rattle.table.specs.inner.Rows.{headsAt, positivesAt, rowRule, tableRules, Row, Laid};
+ghost use Rattle.weigh.specs.inner.Weigh.{Side};
+ghost use Rattle.rules.specs.inner.Bytes.{Room, MapBytes};
+ghost use Rattle.forcing.specs.inner.Support.{Counts, CountAsks, Adds, Stirs, TellsLone, TellsAt, BackAsks, Backs, BacksAll};
 
 // The count of atom a, one of n.
 fn count_of(counts: &[u32], n: u32, a: u32) -> u32
@@ -30,7 +30,7 @@ fn count_of(counts: &[u32], n: u32, a: u32) -> u32
 // One more for the atom of pair j, if it is in.
 fn count_pair(code: &[u32], n: u32, j: u32, m: &[u8], counts: &mut [u32])
     requires { ⌜ Pair (now code) n j × CountAsks n (now m) 1 (now counts) ⌝ }
-    ensures { λ r. ⌜ Adds n (λ a. is 1 (side n (now (m .entry))) a && eqb a (atomAt (now (code .entry)) j)) (now (counts .entry)) (now (counts .exit)) ⌝ }
+    ensures { λ r. ⌜ Adds n (λ a. is 1 (side n (now (m .entry))) a && eqb a (pairAtom (now (code .entry)) j)) (now (counts .entry)) (now (counts .exit)) ⌝ }
 {
     let a = table::atom_at(code, j);
     if side_of(m, n, a) != 1 {
@@ -44,7 +44,7 @@ fn count_pair(code: &[u32], n: u32, j: u32, m: &[u8], counts: &mut [u32])
 // One more for each head of rule i that is in.
 fn count_heads(code: &[u32], n: u32, i: u32, m: &[u8], counts: &mut [u32])
     requires { ⌜ Row (now code) n i × CountAsks n (now m) 0 (now counts) ⌝ }
-    ensures { λ r. ⌜ Adds n (λ a. is 1 (side n (now (m .entry))) a && has a (atoms (now (code .entry)) (headsAt (now (code .entry)) i) (positivesAt (now (code .entry)) i))) (now (counts .entry)) (now (counts .exit)) ⌝ }
+    ensures { λ r. ⌜ Adds n (λ a. is 1 (side n (now (m .entry))) a && has a (segAtoms (now (code .entry)) (headsAt (now (code .entry)) i) (positivesAt (now (code .entry)) i))) (now (counts .entry)) (now (counts .exit)) ⌝ }
 {
     let end = table::positives_at(code, i);
     let mut j = table::heads_at(code, i);
@@ -57,7 +57,7 @@ fn count_heads(code: &[u32], n: u32, i: u32, m: &[u8], counts: &mut [u32])
 // May a head of rule i be in?
 fn stirs(code: &[u32], n: u32, i: u32, m: &[u8]) -> bool
     requires { ⌜ Row (now code) n i × Room n (now m) ⌝ }
-    ensures { λ r. ⌜ Stirs (ruleAt (now (code .entry)) i) (side n (now (m .entry))) r ⌝ }
+    ensures { λ r. ⌜ Stirs (rowRule (now (code .entry)) i) (side n (now (m .entry))) r ⌝ }
 {
     let end = table::positives_at(code, i);
     let mut j = table::heads_at(code, i);
@@ -73,7 +73,7 @@ fn stirs(code: &[u32], n: u32, i: u32, m: &[u8]) -> bool
 // One more for each head that is in and that rule i can still give.
 fn count_rule(code: &[u32], n: u32, i: u32, m: &[u8], counts: &mut [u32])
     requires { ⌜ Row (now code) n i × CountAsks n (now m) 0 (now counts) ⌝ }
-    ensures { λ r. ⌜ Adds n (λ a. is 1 (side n (now (m .entry))) a && supports a (side n (now (m .entry))) (ruleAt (now (code .entry)) i)) (now (counts .entry)) (now (counts .exit)) ⌝ }
+    ensures { λ r. ⌜ Adds n (λ a. is 1 (side n (now (m .entry))) a && supports a (side n (now (m .entry))) (rowRule (now (code .entry)) i)) (now (counts .entry)) (now (counts .exit)) ⌝ }
 {
     if stirs(code, n, i, m) {
         if reach(code, n, i, m) < table::need_at(code, i) {
@@ -86,7 +86,7 @@ fn count_rule(code: &[u32], n: u32, i: u32, m: &[u8], counts: &mut [u32])
 // For each atom that is in, how many rules can still give it.
 pub fn count_all(code: &[u32], n: u32, count: u32, m: &[u8], counts: &mut [u32])
     requires { ⌜ Laid (now code) n count × (Room n (now m) × (Room n (now counts) × ((a : ℕ) → Within n a → side n (now counts) a ≡ 0))) ⌝ }
-    ensures { λ r. ⌜ Counts (rulesAt (now (code .entry)) count) n (side n (now (m .entry))) (now (counts .exit)) ⌝ }
+    ensures { λ r. ⌜ Counts (tableRules (now (code .entry)) count) n (side n (now (m .entry))) (now (counts .exit)) ⌝ }
 {
     let mut i: u32 = 0;
     while i < count {
@@ -98,7 +98,7 @@ pub fn count_all(code: &[u32], n: u32, count: u32, m: &[u8], counts: &mut [u32])
 // Is the atom of pair j in, with a count of 1?
 fn is_lone(code: &[u32], n: u32, j: u32, m: &[u8], counts: &[u32]) -> bool
     requires { ⌜ Pair (now code) n j × (Room n (now m) × Room n (now counts)) ⌝ }
-    ensures { λ r. ⌜ TellsAt n (side n (now (m .entry))) (now (counts .entry)) (atomAt (now (code .entry)) j) r ⌝ }
+    ensures { λ r. ⌜ TellsAt n (side n (now (m .entry))) (now (counts .entry)) (pairAtom (now (code .entry)) j) r ⌝ }
 {
     let a = table::atom_at(code, j);
     let x = side_of(m, n, a);
@@ -115,7 +115,7 @@ fn is_lone(code: &[u32], n: u32, j: u32, m: &[u8], counts: &[u32]) -> bool
 // Is a head of rule i so?
 fn has_lone(code: &[u32], n: u32, i: u32, m: &[u8], counts: &[u32]) -> bool
     requires { ⌜ Row (now code) n i × (Room n (now m) × Room n (now counts)) ⌝ }
-    ensures { λ r. ⌜ Tells (now (code .entry)) n i (side n (now (m .entry))) (now (counts .entry)) r ⌝ }
+    ensures { λ r. ⌜ TellsLone (now (code .entry)) n i (side n (now (m .entry))) (now (counts .entry)) r ⌝ }
 {
     let end = table::positives_at(code, i);
     let mut j = table::heads_at(code, i);
@@ -146,7 +146,7 @@ fn back(code: &[u32], n: u32, i: u32, counts: &[u32], m: &mut [u8]) -> Outcome
 
 // Every rule, one after another, by the counts of the map as it stands at first.
 pub fn back_all(code: &[u32], n: u32, count: u32, counts: &[u32], m: &mut [u8]) -> Outcome
-    requires { ⌜ Laid (now code) n count × (Room n (now counts) × (Proper n (now m) × Counts (rulesAt (now code) count) n (side n (now m)) (now counts))) ⌝ }
+    requires { ⌜ Laid (now code) n count × (Room n (now counts) × (MapBytes n (now m) × Counts (tableRules (now code) count) n (side n (now m)) (now counts))) ⌝ }
     ensures { λ r. ⌜ BacksAll (now (code .entry)) n count (now (counts .entry)) count (now (m .entry)) (now (m .exit)) r ⌝ }
 {
     let mut all = Outcome::Same;

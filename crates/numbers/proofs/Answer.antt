@@ -1,15 +1,17 @@
 -- How the answer of a reader goes by the tests and the parts on its way: a law for each way of a test and for each case of an answer.
-use Prim.Native.Nat.{ℕ, suc, _+_, _-_, _<_}
+use Prim.Native.Nat.{ℕ, suc, _+_, _-_, _≤_, _<_}
 use mathlib.Core.Path.{_≡_, refl, sym, ap, _∙_}
 use mathlib.Core.Bool.{Bool, true, false}
 use native.Mathlib.Omega.{arith}
+use lib.Dec.{leb}
 use borrow.Author.Tests.{lt-ltb, le-ltb, le-leb, lt-leb, eq-eqb, ne-eqb}
 use Rattle.rules.specs.declared.Atom.{Atom}
 use Rattle.rules.specs.declared.AtomOr.{AtomOr}
 use Rattle.rules.specs.declared.AtomOr.the-variants.{Is, Not}
-use Rattle.numbers.specs.Answer.{pick, readThen, atomThen}
+use Rattle.numbers.specs.Answer.{readThen, atomThen}
+use Rattle.rules.specs.Sum.{pick}
 use Rattle.numbers.specs.declared.Refusal.{Refusal}
-use Rattle.numbers.specs.declared.Part.{Part}
+use Rattle.numbers.specs.declared.Span.{Span}
 use Rattle.numbers.specs.declared.Read.{Read}
 use Rattle.numbers.specs.declared.Read.the-variants.{Got, Refused}
 
@@ -23,13 +25,13 @@ passed A r x y b h e = e ∙ ap (λ (t : Bool). pick t x y) (sym h)
 
 -- what was answered, x, is what the definition a says there
 pub got :
-    (A : Type 0) (r : A) (up : Refusal → A) (next : Part → A) (a x : Read) (p : Part) → x ≡ a → x ≡ Got p → r ≡ next p
+    (A : Type 0) (r : A) (up : Refusal → A) (next : Span → A) (a x : Read) (p : Span) → x ≡ a → x ≡ Got p → r ≡ next p
     → r ≡ readThen up a next
 unfolding readThen
 got A r up next a x p h g e = e ∙ ap (λ (t : Read). readThen up t next) (sym g ∙ h)
 
 pub handed :
-    (A : Type 0) (r : A) (up : Refusal → A) (next : Part → A) (a x : Read) (why : Refusal) → x ≡ a → x ≡ Refused why
+    (A : Type 0) (r : A) (up : Refusal → A) (next : Span → A) (a x : Read) (why : Refusal) → x ≡ a → x ≡ Refused why
     → r ≡ up why → r ≡ readThen up a next
 unfolding readThen
 handed A r up next a x why h g e = e ∙ ap (λ (t : Read). readThen up t next) (sym g ∙ h)
@@ -46,8 +48,8 @@ no-atom A r other next a x h g e = e ∙ ap (λ (t : AtomOr). atomThen other t n
 
 -- The way back: an answer that a refusal, or the other case of a test, cannot give came by the part that was read, or by the test.
 pub from-read :
-    {A : Type 0} {z : A} (up : Refusal → A) (next : Part → A) (a : Read) → ((why : Refusal) → up why ≡ z → ⊥)
-    → readThen up a next ≡ z → (p : Part) × (a ≡ Got p) × (next p ≡ z)
+    {A : Type 0} {z : A} (up : Refusal → A) (next : Span → A) (a : Read) → ((why : Refusal) → up why ≡ z → ⊥)
+    → readThen up a next ≡ z → (p : Span) × (a ≡ Got p) × (next p ≡ z)
 unfolding readThen
 from-read up next (Got p) other e = (p, refl, e)
 from-read up next (Refused why) other e = absurd (other why e)
@@ -69,11 +71,18 @@ unfolding atomThen
 from-atom other next (Is atom) wrong e = (atom, refl, e)
 from-atom other next Not wrong e = absurd (wrong e)
 
-pub not-got : {p : Part} (why : Refusal) → Refused why ≡ Got p → ⊥
+pub not-got : {p : Span} (why : Refusal) → Refused why ≡ Got p → ⊥
 not-got why e = let z : _≡_ {A = ℕ} 0 1 = cc in omega arith
 
-pub same-part : {p q : Part} → Got p ≡ Got q → p ≡ q
-same-part e = cc
+pub same-span : {p q : Span} → Got p ≡ Got q → p ≡ q
+same-span e = cc
+
+-- a test on a number that a function handed over
+pub at-most : (a b x : ℕ) → x ≡ a → x ≤ b → leb a b ≡ true
+at-most a b x e h = le-leb a b (omega (arith, e, h))
+
+pub above : (a b x : ℕ) → x ≡ a → b < x → leb a b ≡ false
+above a b x e h = lt-leb a b (omega (arith, e, h))
 
 pub one-left : (n k : ℕ) → k < n → n - k ≡ suc (n - (k + 1))
 one-left n k h = omega arith

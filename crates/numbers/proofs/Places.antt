@@ -8,29 +8,31 @@ use native.Mathlib.Omega.{arith}
 use lib.ListN.{length, getD}
 use lib.Dec.{ltb, leb, eqb}
 use borrow.Author.Tests.{ltb-true}
-use Rattle.rules.specs.Number.{atomOf}
+use Rattle.rules.specs.Limits.{highestRefusal}
+use Rattle.rules.specs.Number.{checkedAtom}
 use Rattle.rules.specs.declared.Atom.{Atom}
 use Rattle.rules.specs.declared.AtomOr.{AtomOr}
 use Rattle.rules.specs.declared.AtomOr.the-variants.{Is, Not}
-use Rattle.numbers.specs.Answer.{refusal, pick, readThen, atomThen}
+use Rattle.numbers.specs.Answer.{refusal, readThen, atomThen}
+use Rattle.rules.specs.Sum.{pick}
 use Rattle.numbers.specs.Number.{groupsFrom, numberAt, withinAt}
-use Rattle.numbers.specs.Lists.{atomAt, upTo, run, listAt}
+use Rattle.numbers.specs.Lists.{atomAt, upTo, inTurn, listAt}
 use Rattle.numbers.specs.declared.Refusal.{Refusal}
-use Rattle.numbers.specs.declared.Part.{Part}
+use Rattle.numbers.specs.declared.Span.{Span}
 use Rattle.numbers.specs.declared.Read.{Read}
 use Rattle.numbers.specs.declared.Read.the-variants.{Got, Refused}
 
--- a refusal of a sheet, at a place up to the last
+-- a refusal of one of the numbers that there are, at a place up to the last
 pub record Placed (last : ℕ) (why : Refusal) : Type 0 where
-  pub number : why .number ≤ 9
+  pub number : why .number ≤ highestRefusal
   pub place : why .place ≤ last
 
-pub placed : {last : ℕ} (number place : ℕ) → number ≤ 9 → place ≤ last → Placed last (refusal number place)
+pub placed : {last : ℕ} (number place : ℕ) → number ≤ highestRefusal → place ≤ last → Placed last (refusal number place)
 placed number place h l = record { number = h; place = l }
 
 -- an answer of a reader that stays within the bytes
 pub data Tame (s : List ℕ) : Read → Type 0 where
-  gets : (p : Part) → p .next ≤ length s → Tame s (Got p)
+  gets : (p : Span) → p .next ≤ length s → Tame s (Got p)
   refuses : (why : Refusal) → Placed (length s) why → Tame s (Refused why)
 
 -- What is so of both ways of a test is so of the test's answer; and so for a part, an atom, and what comes after them.
@@ -40,8 +42,8 @@ pick-so P true x y yea nay = yea refl
 pick-so P false x y yea nay = nay refl
 
 pub read-so :
-    {A : Type 0} (P : A → Type 0) {s : List ℕ} {a : Read} (up : Refusal → A) (next : Part → A) → Tame s a
-    → ((why : Refusal) → Placed (length s) why → P (up why)) → ((p : Part) → p .next ≤ length s → P (next p))
+    {A : Type 0} (P : A → Type 0) {s : List ℕ} {a : Read} (up : Refusal → A) (next : Span → A) → Tame s a
+    → ((why : Refusal) → Placed (length s) why → P (up why)) → ((p : Span) → p .next ≤ length s → P (next p))
     → P (readThen up a next)
 unfolding readThen
 read-so P up next (gets p l) bad good = good p l
@@ -84,16 +86,16 @@ module _ (s : List ℕ) where
     unfolding atomAt
     atom-tame n above =
         read-so (Tame s) Refused _ number-tame refuses
-        (λ number k. atom-so (Tame s) _ (atomOf n (number .value)) _ (refuses _ (placed 6 at (omega arith) h))
+        (λ number k. atom-so (Tame s) _ (checkedAtom n (number .value)) _ (refuses _ (placed 6 at (omega arith) h))
         (λ atom. pick-so (Tame s) (leb (atom .number) above) _ _
         (λ b. refuses _ (placed 7 at (omega arith) h))
         (λ b. gets number k)))
 
   -- a run of steps, each of which stays within the bytes
   pub run-tame :
-      (step : ℕ → ℕ → Read) → ((before at : ℕ) → at ≤ length s → Tame s (step before at)) → (left before : ℕ) (done : Part)
-      → done .next ≤ length s → Tame s (run step left before done)
-  unfolding run
+      (step : ℕ → ℕ → Read) → ((before at : ℕ) → at ≤ length s → Tame s (step before at)) → (left before : ℕ) (done : Span)
+      → done .next ≤ length s → Tame s (inTurn step left before done)
+  unfolding inTurn
   run-tame step tame zero before done h = gets done h
   run-tame step tame (suc left) before done h =
       read-so (Tame s) Refused _ (tame before (done .next) h) refuses

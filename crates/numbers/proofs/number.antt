@@ -1,3 +1,4 @@
 pub mod Laws
 pub mod Most
 pub mod Encoded
+pub mod Taken

@@ -1,4 +1,4 @@
 pub mod Answer
 pub mod Number
 pub mod Lists
-pub mod Encode
+pub mod shown

@@ -6,6 +6,13 @@ ghost use Rattle.numbers.specs.Answer.{refusal};
 pub mod lists;
 pub mod number;
 
+pub use lists::read_atom;
+pub use lists::read_atoms;
+pub use lists::read_list;
+pub use number::read_number;
+pub use number::read_within;
+pub use number::take_number;
+
 // Why a sheet is refused: the number of the refusal, and its place.
 pub struct Refusal {
     pub number: usize,
@@ -14,14 +21,14 @@ pub struct Refusal {
 
 // What was read: its value, its first place, and the place after it. Of a list the value is its count, and `first` is the place of
 // its first atom.
-pub struct Part {
+pub struct Span {
     pub value: usize,
     pub first: usize,
     pub next: usize,
 }
 
 pub enum Read {
-    Got(Part),
+    Got(Span),
     Refused(Refusal),
 }
 

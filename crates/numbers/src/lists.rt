@@ -1,9 +1,9 @@
 // The lists of a sheet: a count, and then atoms, strictly increasing.
 ghost use mathlib.Core.Path.{_≡_};
-ghost use Rattle.numbers.specs.Answer.{part};
-ghost use Rattle.numbers.specs.Lists.{atomAt, run, listAt};
-use super::Part;
+ghost use Rattle.numbers.specs.Answer.{span};
+ghost use Rattle.numbers.specs.Lists.{atomAt, inTurn, listAt};
 use super::Read;
+use super::Span;
 use super::number::read_number;
 use super::number::read_within;
 use super::refused;
@@ -22,7 +22,7 @@ pub fn read_atom(s: &[u8], n: usize, above: usize, at: usize) -> Read
     let AtomOr::Is(atom) = checked else {
         return refused(6, at);
     };
-    if atom.number <= above {
+    if atom.number() <= above {
         return refused(7, at);
     }
     got
@@ -30,7 +30,7 @@ pub fn read_atom(s: &[u8], n: usize, above: usize, at: usize) -> Read
 
 // So many atoms from a place on, strictly increasing.
 pub fn read_atoms(s: &[u8], n: usize, count: usize, first: usize) -> Read
-    ensures { λ r. ⌜ r ≡ run (atomAt (now (s .entry)) n) count 0 (part count first first) ⌝ }
+    ensures { λ r. ⌜ r ≡ inTurn (atomAt (now (s .entry)) n) count 0 (span count first first) ⌝ }
 {
     let mut above = 0;
     let mut at = first;
@@ -42,7 +42,7 @@ pub fn read_atoms(s: &[u8], n: usize, count: usize, first: usize) -> Read
         above = atom.value;
         at = atom.next;
     }
-    Read::Got(Part {
+    Read::Got(Span {
         value: count,
         first,
         next: at,

@@ -2,9 +2,9 @@
 ghost use mathlib.Core.Path.{_≡_};
 ghost use mathlib.Core.Bool.{_&&_};
 ghost use lib.Dec.{ltb, eqb};
-ghost use Rattle.numbers.specs.Number.{numberAt, withinAt};
-use super::Part;
+ghost use Rattle.numbers.specs.Number.{numberAt, withinAt, takenAt};
 use super::Read;
+use super::Span;
 use super::refused;
 
 fn wide(b: u8) -> usize
@@ -36,7 +36,7 @@ pub fn read_number(s: &[u8], first: usize) -> Read
             if needless(group, first, at) {
                 return refused(2, first);
             }
-            return Read::Got(Part {
+            return Read::Got(Span {
                 value: sum + group * scale,
                 first,
                 next: at + 1,
@@ -47,6 +47,40 @@ pub fn read_number(s: &[u8], first: usize) -> Read
         at += 1;
     }
     refused(2, first)
+}
+
+// The number at a place where one was read before: nothing is tested again.
+pub fn take_number(s: &[u8], first: usize) -> Span
+    ensures { λ r. ⌜ r ≡ takenAt (now (s .entry)) first ⌝ }
+{
+    let mut at = first;
+    let mut sum: usize = 0;
+    let mut scale: usize = 1;
+    for _ in 0..4u32 {
+        if s.len() <= at {
+            return Span {
+                value: sum,
+                first,
+                next: at,
+            };
+        }
+        let group = wide(s[at]);
+        at += 1;
+        if group < 128 {
+            return Span {
+                value: sum + group * scale,
+                first,
+                next: at,
+            };
+        }
+        sum += group % 128 * scale;
+        scale *= 128;
+    }
+    Span {
+        value: sum,
+        first,
+        next: at,
+    }
 }
 
 // The number at a place, where it is one of `least` to `most`.

@@ -1,3 +1,3 @@
 pub mod Place
 pub mod Reader
-pub mod Reading
+pub mod ReadOut

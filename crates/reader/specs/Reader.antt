@@ -6,8 +6,8 @@ use mathlib.Core.List.{List}
 use denote.Ref.{RefT, now}
 use Rattle.reader.specs.Place.{firstPlace, stepAt, placeAfter, atEnd}
 use Rattle.reader.specs.declared.Reader.{Reader}
-use Rattle.reader.specs.declared.place.Place.{Place}
-use Rattle.reader.specs.declared.place.Step.{Step}
+use Rattle.reader.specs.declared.Place.{Place}
+use Rattle.reader.specs.declared.NextRule.{NextRule}
 
 abbrev pub readerAt : RefT (List ℕ) → Place → Reader
 readerAt sheet place = record { sheet = sheet; place = place }
@@ -15,7 +15,7 @@ readerAt sheet place = record { sheet = sheet; place = place }
 abbrev pub startOf : RefT (List ℕ) → Reader
 startOf sheet = readerAt sheet (firstPlace (now sheet))
 
-abbrev pub nextOf : Reader → Step
+abbrev pub nextOf : Reader → NextRule
 nextOf reader = stepAt (now (reader .sheet)) (reader .place)
 
 abbrev pub movedTo : Reader → Place → Reader
@@ -28,5 +28,5 @@ abbrev pub isEnd : Reader → Bool
 isEnd reader = atEnd (reader .place)
 
 -- the first step on a sheet
-abbrev pub firstStep : List ℕ → Step
+abbrev pub firstStep : List ℕ → NextRule
 firstStep s = stepAt s (firstPlace s)

@@ -1,19 +1,23 @@
 -- A map held in bytes: atom a at index a - 1. Writing a side to an undecided atom's byte gives the map that is above the old one
--- and below every map above the old one that has the atom on that side.
+-- and below every map above the old one that has the atom on that side. Two lists that agree on the map and past it are equal.
+use Rattle.rules.specs.Sum.{tally}
 use Prim.Native.Nat.{ℕ, _+_, _-_, _≤_, _<_}
-use mathlib.Core.Path.{_≡_, sym, _∙_, ap}
+use mathlib.Core.Path.{_≡_, refl, sym, _∙_, ap}
 use mathlib.Core.Logic.{⊎-elim}
 use mathlib.Core.Bool.{Bool, true, false, not, cond}
-use mathlib.Core.List.{List}
+use mathlib.Core.List.{List, [], _∷_}
 use native.Mathlib.Omega.{arith}
-use lib.ListN.{length, getD, set}
-use lib.Seq.{getD-set-same, getD-set-other}
+use native.Mathlib.Nat.{min-le-left}
+use lib.ListN.{length, getD, set, drop, length-drop, take, length-take}
+use lib.Seq.{getD-set-same, getD-set-other, ext-getD, getD-drop, length-take-le, getD-take}
 use lib.Dec.{T, eqb}
 use Rattle.rules.specs.Rule.{Within}
-use Rattle.rules.specs.Map.{Map, IsMap, side, want, _⊑_}
-use Rattle.rules.proofs.Tests.{decided, T-eq, T-ne}
+use Rattle.rules.specs.Map.{Map, IsMap, Over, Written, side, signed, want, _⊑_, undecided}
+use Rattle.rules.proofs.Tests.{decided, T-eq, T-ne, below?}
 use Rattle.rules.proofs.Inside.{inside-true, inside-false, within?}
-use Rattle.rules.proofs.Maps.{want-decided}
+use Rattle.rules.proofs.Sum.{tally-most}
+use Rattle.rules.proofs.Maps.{want-decided, ⊑-trans}
+use Rattle.rules.proofs.Least.{over-one, over-at}
 
 pub side-at : (n : ℕ) (m : List ℕ) (a : ℕ) → Within n a → side n m a ≡ getD m (a - 1) 0
 unfolding side
@@ -85,6 +89,15 @@ module _ (n : ℕ) (m : List ℕ) (a : ℕ) (w : Within n a) (long : n ≤ lengt
         other : (t : Bool) (b : ℕ) → side n (set m (a - 1) v) b ≡ want t → T (not (eqb b a)) → X b ≡ want t
         other t b h q = f .keeps t b (sym (written-other v b (T-ne q)) ∙ h)
 
+  -- a literal over the map, by its bytes
+  module _ (s : Bool) (z : side n m a ≡ 0) (X : Map) where
+    pub over-written : side n (set m (a - 1) (want s)) ⊑ X → Over (side n m) (signed s a ∷ []) X
+    over-written f =
+        over-one s a (⊑-trans (written-above (want s) z) f) (f .keeps s a (written-same (want s)))
+
+    pub written-over : Over (side n m) (signed s a ∷ []) X → side n (set m (a - 1) (want s)) ⊑ X
+    written-over q = written-below (want s) X (q .above) (over-at s a q)
+
   module _ (s : Bool) where
     pub written-map : IsMap n (side n m) → IsMap n (side n (set m (a - 1) (want s)))
     written-map mp =
@@ -104,3 +117,71 @@ module _ (n : ℕ) (m : List ℕ) (a : ℕ) (w : Within n a) (long : n ≤ lengt
 
         other : (b : ℕ) → T (not (eqb b a)) → side n (set m (a - 1) (want s)) b ≤ 2
         other b q = omega (arith, written-other (want s) b (T-ne q), mp .sides b)
+
+-- lists of bytes that agree below n, and those that agree past n
+pub side-bytes : (n : ℕ) (m m′ : List ℕ) → ((a : ℕ) → side n m a ≡ side n m′ a) → (i : ℕ) → i < n → getD m i 0 ≡ getD m′ i 0
+side-bytes n m m′ e i h = sym (side-index n m i h) ∙ e (i + 1) ∙ side-index n m′ i h
+
+pub drop-bytes : (n : ℕ) (m m′ : List ℕ) → drop n m ≡ drop n m′ → (i : ℕ) → n ≤ i → getD m i 0 ≡ getD m′ i 0
+drop-bytes n m m′ e i h =
+    let k : n + (i - n) ≡ i = omega arith in
+    sym (ap (λ (j : ℕ). getD m j 0) k) ∙ sym (getD-drop n m (i - n) 0) ∙ ap (λ (l : List ℕ). getD l (i - n) 0) e
+    ∙ getD-drop n m′ (i - n) 0
+    ∙ ap (λ (j : ℕ). getD m′ j 0) k
+
+-- lists that agree past n are the same past n
+pub drop-same :
+    (n : ℕ) (m m′ : List ℕ) → length m ≡ length m′ → ((i : ℕ) → n ≤ i → getD m i 0 ≡ getD m′ i 0) → drop n m ≡ drop n m′
+drop-same n m m′ l e =
+    ext-getD
+    0
+    (drop n m)
+    (drop n m′)
+    (length-drop n m ∙ ap (λ (k : ℕ). k - n) l ∙ sym (length-drop n m′))
+    (λ i _. getD-drop n m i 0 ∙ e (n + i) (omega arith) ∙ sym (getD-drop n m′ i 0))
+
+-- what a call writes is fixed by its first n bytes
+pub written-equal :
+    (n : ℕ) (m m′ m″ : List ℕ) → Written n m m′ → Written n m m″ → ((i : ℕ) → i < n → getD m′ i 0 ≡ getD m″ i 0) → m′ ≡ m″
+written-equal n m m′ m″ w w′ e =
+    ext-getD
+    0
+    m′
+    m″
+    (w .long ∙ sym (w′ .long))
+    (λ i _. ⊎-elim (λ (h : i < n). e i h) (λ (h : n ≤ i). drop-bytes n m′ m″ (w .past ∙ sym (w′ .past)) i h) (below? i n))
+
+-- so do equal bytes below n, with as many undecided atoms
+pub undecided-same :
+    (n : ℕ) (m m′ : List ℕ) → n ≤ length m → n ≤ length m′ → ((i : ℕ) → i < n → getD m i 0 ≡ getD m′ i 0) → undecided n m ≡ undecided n m′
+unfolding undecided
+undecided-same n m m′ h h′ e = ap (λ (l : List ℕ). tally (λ b. eqb b 0) (λ _. 1) l) same
+  where
+    same : take n m ≡ take n m′
+    same =
+        ext-getD
+        0
+        (take n m)
+        (take n m′)
+        (length-take-le n m h ∙ sym (length-take-le n m′ h′))
+        (λ i l.
+        let k : i < n = omega (arith, length-take-le n m h, l) in
+        getD-take n m i 0 k ∙ e i k ∙ sym (getD-take n m′ i 0 k))
+
+-- what is written past n, after one call and then another
+pub written-refl : {n : ℕ} {m : List ℕ} → Written n m m
+written-refl = record { long = refl; past = refl }
+
+pub written-trans : {n : ℕ} {m m′ m″ : List ℕ} → Written n m m′ → Written n m′ m″ → Written n m m″
+written-trans w w′ = record { long = w′ .long ∙ w .long; past = w′ .past ∙ w .past }
+
+-- no more atoms are undecided than there are
+pub undecided-few : (n : ℕ) (m : List ℕ) → undecided n m ≤ n
+unfolding undecided
+undecided-few n m =
+    omega (
+      arith,
+      tally-most 1 (λ (b : ℕ). eqb b 0) (λ _. 1) (take n m) (λ b i. omega arith),
+      length-take n m,
+      min-le-left n (length m),
+    )

@@ -3,21 +3,22 @@
 use Prim.Native.Nat.{ℕ}
 use mathlib.Core.Path.{_≡_, refl, subst, ap₂}
 use mathlib.Core.Bool.{Bool, true, false, _&&_}
-use mathlib.Core.List.{List, [], _∷_, List·Memᴰ}
+use mathlib.Core.List.{List, [], _∷_, List·Memᴰ, List·Memᴰ·not-nil}
 use lib.Dec.{T, eqb}
 use Rattle.rules.specs.Sum.{tally, has}
-use Rattle.rules.specs.Rule.{Rule, Weighted, Sheet, Within, Numbered, body}
-use Rattle.rules.specs.Stable.{value}
+use Rattle.rules.specs.Rule.{Rule, Weighted, Sheet, Within, body}
+use Rattle.rules.specs.inner.Fits.{Numbered}
+use Rattle.rules.specs.Stable.{value, Set, Model}
 use Rattle.rules.specs.Map.{Literal, inside, side}
-use Rattle.rules.specs.Cases.{Case, Expected, bytes, nothing, MapIs, ModelIs, Proved, cases}
-use Rattle.rules.specs.Paper.{those}
-use Rattle.rules.proofs.Tests.{T-and-left, T-and-right, T-eq, has-mem}
+use Rattle.rules.specs.shown.Cases.{WorkedCase, Expected, bytes, nothing, MapIs, ModelIs, Proved, workedCases, sheet}
+use Rattle.rules.specs.shown.Paper.{those}
+use Rattle.rules.proofs.Tests.{T-and-left, T-and-right, T-eq, has-mem, T-false}
 use Rattle.rules.proofs.Inside.{inside-within}
 use Rattle.rules.proofs.Lists.{every, every-T}
 use Rattle.rules.proofs.Fixpoint.{grow}
 use Rattle.rules.proofs.Closing.{Ending, closedAt, clash, closing}
 use Rattle.rules.proofs.Opening.{opening, opening-right, Opened, taking}
-use Rattle.rules.proofs.Searching.{Found, model, noModel, solving, solving-right, Solved, searching, lowest}
+use Rattle.rules.proofs.Searching.{SearchAnswer, model, noModel, solving, solving-right, Solved, searching, lowest}
 
 abbrev equal : List ℕ → List ℕ → Bool
 equal [] [] = true
@@ -82,23 +83,23 @@ endsAs (closedAt m) nothing = false
 endsAs clash (bytes q) = false
 endsAs clash nothing = true
 
-abbrev findsAs : Found → Expected → Bool
+abbrev findsAs : SearchAnswer → Expected → Bool
 findsAs (model m) (bytes q) = equal m q
 findsAs (model m) nothing = false
 findsAs noModel (bytes q) = false
 findsAs noModel nothing = true
 
-abbrev pub holds : Case → Bool
+abbrev pub holds : WorkedCase → Bool
 holds c =
     numbered (c .sheet)
     && (every (λ (p : Literal). inside (c .sheet .atoms) (p .atom)) (c .pins)
     && (endsAs (opening (c .sheet) (c .pins)) (c .map) && findsAs (solving (c .sheet)) (c .model)))
 
-all-hold : T (every holds cases)
-unfolding cases tally has value side those grow closing taking opening lowest searching solving
+all-hold : T (every holds workedCases)
+unfolding workedCases tally has value side those grow closing taking opening lowest searching solving
 all-hold = tt
 
-module _ (c : Case) (t : T (holds c)) where
+module _ (c : WorkedCase) (t : T (holds c)) where
   abbrev sh : Sheet
   sh = c .sheet
 
@@ -125,7 +126,7 @@ module _ (c : Case) (t : T (holds c)) where
   map-ends clash (bytes q) u r = absurd u
   map-ends clash nothing u r = r
 
-  model-ends : (f : Found) (x : Expected) → T (findsAs f x) → Solved sh f → ModelIs sh x
+  model-ends : (f : SearchAnswer) (x : Expected) → T (findsAs f x) → Solved sh f → ModelIs sh x
   model-ends (model m) (bytes q) u r = subst (λ (b : List ℕ). ModelIs sh (bytes b)) (equal-T m q u) r
   model-ends (model m) nothing u r = absurd u
   model-ends noModel (bytes q) u r = absurd u
@@ -152,5 +153,10 @@ module _ (c : Case) (t : T (holds c)) where
       }
 
 -- the table
-pub cases-proved : (c : Case) → List·Memᴰ c cases → Proved c
-cases-proved c m = case-proved c (every-T holds cases all-hold c m)
+pub cases-proved : (c : WorkedCase) → List·Memᴰ c workedCases → Proved c
+cases-proved c m = case-proved c (every-T holds workedCases all-hold c m)
+
+-- "no atoms, no rules: one model, empty": every model of that sheet is empty, and by the table the empty set is one
+pub only-empty : (S : Set) → Model (sheet 0 []) S → (a : ℕ) → S a ≡ false
+only-empty S md a =
+    T-false (S a) (λ t. md .stable .smallest (λ _. false) (λ r m. absurd (List·Memᴰ·not-nil m)) a t)

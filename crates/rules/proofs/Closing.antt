@@ -10,20 +10,21 @@ use native.Mathlib.Nat.{not-suc-le-zero}
 use lib.ListN.{length, set, length-set}
 use lib.Dec.{T, eqb}
 use Rattle.rules.specs.Sum.{tally}
-use Rattle.rules.specs.Rule.{Rule, Within, Fits}
+use Rattle.rules.specs.Rule.{Rule, Within}
+use Rattle.rules.specs.inner.Fits.{Fits}
 use Rattle.rules.specs.Map.{Map, Literal, Holding, IsMap, side, want, _⊑_}
 use Rattle.rules.specs.Forcing.{Closed, Least, Contradiction}
-use Rattle.rules.specs.Paper.{those}
+use Rattle.rules.specs.shown.Paper.{those}
 use Rattle.rules.proofs.Tests.{eq-T, T-eq, ne-T, T-ne, decided}
 use Rattle.rules.proofs.Sum.{tally-more}
-use Rattle.rules.proofs.Lists.{upTo, within-upTo, those-mem, mem-those}
+use Rattle.rules.proofs.Lists.{downFrom, within-upTo, those-mem, mem-those}
 use Rattle.rules.proofs.Maps.{sides, want-decided, want-apart, ⊑-refl, ⊑-trans}
 use Rattle.rules.proofs.Bytes.{written-same, written-other, written-above, written-below, written-map}
 use Rattle.rules.proofs.Concluding.{conclusions, concluded, conclusion-within, all-held}
 
--- how many of the n atoms are undecided
-abbrev pub undecided : ℕ → List ℕ → ℕ
-undecided n m = tally (λ a. eqb (side n m a) 0) (λ _. 1) (upTo n)
+-- how many of the n atoms are undecided, by the side of each
+abbrev pub openCount : ℕ → List ℕ → ℕ
+openCount n m = tally (λ a. eqb (side n m a) 0) (λ _. 1) (downFrom n)
 
 pub data Ending : Type 0 where
   closedAt : List ℕ → Ending
@@ -46,13 +47,13 @@ next n m (c ∷ cs) f = ifOpen (eqb (side n m (c .atom)) 0) f c
 -- a byte written on an undecided atom leaves one undecided atom less
 pub undecided-falls :
     (n : ℕ) (m : List ℕ) (a : ℕ) → Within n a → n ≤ length m → (s : Bool) → side n m a ≡ 0
-    → undecided n (set m (a - 1) (want s)) + 1 ≤ undecided n m
+    → openCount n (set m (a - 1) (want s)) + 1 ≤ openCount n m
 undecided-falls n m a w long s z =
     tally-more
     (λ b. eqb (side n (set m (a - 1) (want s)) b) 0)
     (λ b. eqb (side n m b) 0)
     (λ _. 1)
-    (upTo n)
+    (downFrom n)
     (λ b _ t. fewer b (T-eq t) (decided (eqb b a)))
     a
     (within-upTo n w)
@@ -74,8 +75,8 @@ module _ (P : List Rule) (n : ℕ) where
 
   -- what the answer says of the map that it was made from
   abbrev pub Right : List ℕ → Ending → Type 0
-  Right m (closedAt m′) = Least P n (λ X. side n m ⊑ X) (side n m′) × (length m′ ≡ length m)
-  Right m clash = Contradiction P n (λ X. side n m ⊑ X)
+  Right m (closedAt m′) = Least (Closed P n) (λ X. side n m ⊑ X) (side n m′) × (length m′ ≡ length m)
+  Right m clash = Contradiction (Closed P n) (λ X. side n m ⊑ X)
 
   module _ (fits : Fits n P) where
     module _ (m : List ℕ) (mp : IsMap n (side n m)) (long : n ≤ length m) where
@@ -99,7 +100,7 @@ module _ (P : List Rule) (n : ℕ) where
         within : Within n (c .atom)
         within = conclusion-within P n M fits c from
 
-        opposed : (M (c .atom) ≡ 0 → ⊥) → Contradiction P n (λ X. M ⊑ X)
+        opposed : (M (c .atom) ≡ 0 → ⊥) → Contradiction (Closed P n) (λ X. M ⊑ X)
         opposed o X x f = step (sides (M (c .atom)) (mp .sides (c .atom)) (c .sign))
           where
             step : (M (c .atom) ≡ 0) ⊎ ((M (c .atom) ≡ want (c .sign)) ⊎ (M (c .atom) ≡ want (not (c .sign)))) → ⊥
@@ -126,14 +127,14 @@ module _ (P : List Rule) (n : ℕ) where
           onward clash r = λ X x f. r X x (on X x f)
 
     pub closing-right :
-        (k : ℕ) (m : List ℕ) → IsMap n (side n m) → n ≤ length m → undecided n m < k → Right m (closing k m)
+        (k : ℕ) (m : List ℕ) → IsMap n (side n m) → n ≤ length m → openCount n m < k → Right m (closing k m)
     unfolding closing
     closing-right zero m mp long few = absurd (not-suc-le-zero few)
     closing-right (suc k) m mp long few = step (news m) refl (closing-right k)
       where
         go :
             (c : Literal) → List·Memᴰ c (news m) → (b : Bool) → eqb (side n m (c .atom)) 0 ≡ b
-            → ((q : List ℕ) → IsMap n (side n q) → n ≤ length q → undecided n q < k → Right q (closing k q))
+            → ((q : List ℕ) → IsMap n (side n q) → n ≤ length q → openCount n q < k → Right q (closing k q))
             → Right m (ifOpen b (λ d. closing k (write m d)) c)
         go c i true e rec =
             let z : side n m (c .atom) ≡ 0 = T-eq (subst T (sym e) tt) in
@@ -155,7 +156,7 @@ module _ (P : List Rule) (n : ℕ) where
 
         step :
             (cs : List Literal) → news m ≡ cs
-            → ((q : List ℕ) → IsMap n (side n q) → n ≤ length q → undecided n q < k → Right q (closing k q))
+            → ((q : List ℕ) → IsMap n (side n q) → n ≤ length q → openCount n q < k → Right q (closing k q))
             → Right m (next n m cs (λ c. closing k (write m c)))
         step [] e rec =
             (record { closed = quiet m mp long e; holding = ⊑-refl (side n m); below = λ X x f. f }, refl)

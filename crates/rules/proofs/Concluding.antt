@@ -7,11 +7,12 @@ use mathlib.Core.Bool.{Bool, true, false, not, _&&_}
 use mathlib.Core.List.{List, [], _∷_, _++_, map, List·Memᴰ, List·Memᴰ·head, List·Memᴰ·tail, List·Memᴰ·eq-of-singleton, List·Memᴰ·append-cases, Memᴰ·append-left, Memᴰ·append-right}
 use lib.Dec.{T, eqb, leb, ltb, leb→le, le→leb, ltb→lt, lt→ltb, T-not}
 use Rattle.rules.specs.Sum.{has}
-use Rattle.rules.specs.Rule.{Rule, Weighted, Within, Fits, body, chooses}
-use Rattle.rules.specs.Map.{Map, Literal, Holding, IsMap, want, sure, reach, _⊑_}
-use Rattle.rules.specs.Forcing.{Closed, supports, supporters, inn, out}
+use Rattle.rules.specs.Rule.{Rule, Weighted, Within, body, chooses}
+use Rattle.rules.specs.inner.Fits.{Fits}
+use Rattle.rules.specs.Map.{Map, Literal, Holding, IsMap, want, sure, reach, _⊑_, signed}
+use Rattle.rules.specs.Forcing.{Closed, supports, supporters}
 use Rattle.rules.proofs.Tests.{and-T, T-and-left, T-and-right, eq-T, T-eq, has-mem, mem-has, decided}
-use Rattle.rules.proofs.Lists.{some, some-T, T-some, each, each-mem, mem-each, guard, guard-mem, mem-guard, upTo, upTo-within, within-upTo}
+use Rattle.rules.proofs.Lists.{some, some-T, T-some, each, each-mem, mem-each, guard, guard-mem, mem-guard, downFrom, downFrom-within, within-upTo}
 use Rattle.rules.proofs.Members.{map-mem, mem-map}
 use Rattle.rules.proofs.Maps.{want-decided}
 use Rattle.rules.proofs.Forced.{forced-first, forced-second, forced-third, forced-fourth}
@@ -74,7 +75,7 @@ module _ (P : List Rule) (n : ℕ) (M : Map) where
   fires r = must r && leb (r .need) (sure r M)
 
   abbrev first : Rule → List Literal
-  first r = guard (fires r) (map inn (r .heads))
+  first r = guard (fires r) (map (signed true) (r .heads))
 
   -- the atom is in, and the rule is its only supporter
   abbrev only : Rule → ℕ → Bool
@@ -96,25 +97,25 @@ module _ (P : List Rule) (n : ℕ) (M : Map) where
   third r = guard (barred r) (decidedBy M r (enough r) not)
 
   abbrev fourth : ℕ → List Literal
-  fourth a = guard (not (U P M n a)) (out a ∷ [])
+  fourth a = guard (not (U P M n a)) (signed false a ∷ [])
 
   abbrev pub conclusions : List Literal
-  conclusions = each first P ++ (each second P ++ (each third P ++ each fourth (upTo n)))
+  conclusions = each first P ++ (each second P ++ (each third P ++ each fourth (downFrom n)))
 
   in-first : {c : Literal} (r : Rule) → List·Memᴰ r P → List·Memᴰ c (first r) → List·Memᴰ c conclusions
-  in-first r m i = Memᴰ·append-left (each second P ++ (each third P ++ each fourth (upTo n))) (mem-each first m i)
+  in-first r m i = Memᴰ·append-left (each second P ++ (each third P ++ each fourth (downFrom n))) (mem-each first m i)
 
   in-second : {c : Literal} (r : Rule) → List·Memᴰ r P → List·Memᴰ c (second r) → List·Memᴰ c conclusions
   in-second r m i =
-      Memᴰ·append-right (each first P) (Memᴰ·append-left (each third P ++ each fourth (upTo n)) (mem-each second m i))
+      Memᴰ·append-right (each first P) (Memᴰ·append-left (each third P ++ each fourth (downFrom n)) (mem-each second m i))
 
   in-third : {c : Literal} (r : Rule) → List·Memᴰ r P → List·Memᴰ c (third r) → List·Memᴰ c conclusions
   in-third r m i =
       Memᴰ·append-right
       (each first P)
-      (Memᴰ·append-right (each second P) (Memᴰ·append-left (each fourth (upTo n)) (mem-each third m i)))
+      (Memᴰ·append-right (each second P) (Memᴰ·append-left (each fourth (downFrom n)) (mem-each third m i)))
 
-  in-fourth : {c : Literal} (a : ℕ) → List·Memᴰ a (upTo n) → List·Memᴰ c (fourth a) → List·Memᴰ c conclusions
+  in-fourth : {c : Literal} (a : ℕ) → List·Memᴰ a (downFrom n) → List·Memᴰ c (fourth a) → List·Memᴰ c conclusions
   in-fourth a m i =
       Memᴰ·append-right
       (each first P)
@@ -123,14 +124,14 @@ module _ (P : List Rule) (n : ℕ) (M : Map) where
   -- what holds of each rule's conclusions holds of all in the list
   module _
       (K : Literal → Type 0)
-      (k₁ : (r : Rule) → List·Memᴰ r P → T (must r) → r .need ≤ sure r M → (a : ℕ) → T (has a (r .heads)) → K (inn a))
+      (k₁ : (r : Rule) → List·Memᴰ r P → T (must r) → r .need ≤ sure r M → (a : ℕ) → T (has a (r .heads)) → K (signed true a))
       (k₂ :
       (a : ℕ) → M a ≡ 1 → supporters a M P ≡ 1 → (r : Rule) → List·Memᴰ r P → T (supports a M r) → (s : Bool) (l : Weighted)
       → List·Memᴰ l (body r s) → M (l .atom) ≡ 0 → reach r M < r .need + l .weight → K (lit (l .atom) s))
       (k₃ :
       (r : Rule) → List·Memᴰ r P → T (must r) → (a : ℕ) → T (has a (r .heads)) → M a ≡ 2 → (s : Bool) (l : Weighted)
       → List·Memᴰ l (body r s) → M (l .atom) ≡ 0 → r .need ≤ sure r M + l .weight → K (lit (l .atom) (not s)))
-      (k₄ : (a : ℕ) → Within n a → T (not (U P M n a)) → K (out a))
+      (k₄ : (a : ℕ) → Within n a → T (not (U P M n a)) → K (signed false a))
     where
       at : {c d : Literal} → c ≡ d → K d → K c
       at e h = subst K (sym e) h
@@ -138,8 +139,8 @@ module _ (P : List Rule) (n : ℕ) (M : Map) where
       by-first : {c : Literal} → List·Memᴰ c (each first P) → K c
       by-first i =
           let k = each-mem first P i in
-          let g = guard-mem (fires (k .0)) (map inn (k .0 .heads)) (k .2) in
-          let h = map-mem inn (k .0 .heads) (g .1) in
+          let g = guard-mem (fires (k .0)) (map (signed true) (k .0 .heads)) (k .2) in
+          let h = map-mem (signed true) (k .0 .heads) (g .1) in
           at
           (h .2)
           (k₁
@@ -193,11 +194,11 @@ module _ (P : List Rule) (n : ℕ) (M : Map) where
           (u .open′)
           (leb→le (k .0 .need) (sure (k .0) M + u .of .weight) (u .passes)))
 
-      by-fourth : {c : Literal} → List·Memᴰ c (each fourth (upTo n)) → K c
+      by-fourth : {c : Literal} → List·Memᴰ c (each fourth (downFrom n)) → K c
       by-fourth i =
-          let k = each-mem fourth (upTo n) i in
-          let g = guard-mem (not (U P M n (k .0))) (out (k .0) ∷ []) (k .2) in
-          at (List·Memᴰ·eq-of-singleton (g .1)) (k₄ (k .0) (upTo-within n (k .1)) (g .0))
+          let k = each-mem fourth (downFrom n) i in
+          let g = guard-mem (not (U P M n (k .0))) (signed false (k .0) ∷ []) (k .2) in
+          at (List·Memᴰ·eq-of-singleton (g .1)) (k₄ (k .0) (downFrom-within n (k .1)) (g .0))
 
       each-conclusion : (c : Literal) → List·Memᴰ c conclusions → K c
       each-conclusion c i =
@@ -239,14 +240,14 @@ module _ (P : List Rule) (n : ℕ) (M : Map) where
           first =
               λ r m c k a h.
               held
-              (inn a)
+              (signed true a)
               (in-first
               r
               m
               (mem-guard
               (fires r)
               (and-T (must r) (leb (r .need) (sure r M)) c (le→leb (r .need) (sure r M) k))
-              (mem-map inn (has-mem a (r .heads) h))));
+              (mem-map (signed true) (has-mem a (r .heads) h))));
           second =
               λ a e c r m t s l i z k.
               want-decided
@@ -293,6 +294,6 @@ module _ (P : List Rule) (n : ℕ) (M : Map) where
               ⊎-elim
               (λ (t : T (U P M n a)). U-founded P M fits a t)
               (λ (t : T (not (U P M n a))).
-              absurd (o (held (out a) (in-fourth a (within-upTo n w) (mem-guard (not (U P M n a)) t (List·Memᴰ·head refl))))))
+              absurd (o (held (signed false a) (in-fourth a (within-upTo n w) (mem-guard (not (U P M n a)) t (List·Memᴰ·head refl))))))
               (decided (U P M n a));
         }

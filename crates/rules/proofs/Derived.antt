@@ -8,11 +8,12 @@ use mathlib.Core.List.{List, List·Memᴰ}
 use native.Mathlib.Omega.{arith}
 use lib.Dec.{T, leb, leb→le, le→leb, T-not}
 use Rattle.rules.specs.Sum.{has}
-use Rattle.rules.specs.Rule.{Rule, Weighted, Within, Fits, body, chooses}
+use Rattle.rules.specs.Rule.{Rule, Weighted, Within, body, chooses}
+use Rattle.rules.specs.inner.Fits.{Fits}
 use Rattle.rules.specs.Stable.{Set, outside, value, Gives, Contains, Below, Stable}
 use Rattle.rules.proofs.Tests.{and-T, T-and-left, T-and-right, T-or, or-left, or-right, T-same, beq-eq, eq-beq, has-mem, decided}
 use Rattle.rules.proofs.Inside.{within?}
-use Rattle.rules.proofs.Lists.{some, some-T, T-some, every, every-T, T-every, each, mem-each, upTo, within-upTo}
+use Rattle.rules.proofs.Lists.{some, some-T, T-some, every, every-T, T-every, each, mem-each, downFrom, within-upTo}
 use Rattle.rules.proofs.Value.{by, value-mono}
 use Rattle.rules.proofs.Fixpoint.{elements, smallest, smallest-closed, smallest-below, smallest-passes}
 
@@ -116,7 +117,7 @@ module _ (P : List Rule) (S : Set) where
 
 -- is the list's set stable? A test that is computed
 abbrev pub isStable : List Rule → ℕ → List ℕ → Bool
-isStable P n S = every (λ a. Bool·beq (has a S) (derived P (elements S) a)) (upTo n)
+isStable P n S = every (λ a. Bool·beq (has a S) (derived P (elements S) a)) (downFrom n)
 
 module _ {n : ℕ} {P : List Rule} (fits : Fits n P) (S : List ℕ) (small : (a : ℕ) → T (has a S) → Within n a) where
   derived-within : (a : ℕ) → T (derived P (elements S) a) → Within n a
@@ -131,7 +132,7 @@ module _ {n : ℕ} {P : List Rule} (fits : Fits n P) (S : List ℕ) (small : (a 
       same a =
           ⊎-elim
           (λ (w : Within n a).
-          beq-eq (has a S) (derived P (elements S) a) (every-T (λ b. Bool·beq (has b S) (derived P (elements S) b)) (upTo n) t a (within-upTo n w)))
+          beq-eq (has a S) (derived P (elements S) a) (every-T (λ b. Bool·beq (has b S) (derived P (elements S) b)) (downFrom n) t a (within-upTo n w)))
           (λ (o : Within n a → ⊥).
           T-same (has a S) (derived P (elements S) a) (λ h. absurd (o (small a h))) (λ h. absurd (o (derived-within a h))))
           (within? n a)
@@ -140,5 +141,5 @@ module _ {n : ℕ} {P : List Rule} (fits : Fits n P) (S : List ℕ) (small : (a 
   T-isStable st =
       T-every
       (λ b. Bool·beq (has b S) (derived P (elements S) b))
-      (upTo n)
+      (downFrom n)
       (λ a _. eq-beq (has a S) (derived P (elements S) a) (stable-derived P (elements S) st a))

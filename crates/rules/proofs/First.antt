@@ -2,23 +2,24 @@
 -- atom of a map all models above the map agree, so a model with that atom in comes before each with it out: trying in and then
 -- out finds the first.
 use Prim.Native.Nat.{ℕ, zero, suc, _<_}
-use mathlib.Core.Path.{_≡_, refl, sym, _∙_, subst}
+use mathlib.Core.Path.{_≡_, sym, _∙_, subst}
 use mathlib.Core.Logic.{_⊎_, inl, inr, ⊎-elim}
 use mathlib.Core.Bool.{Bool, true, false}
-use mathlib.Core.List.{[], List·Memᴰ·head}
+use mathlib.Core.List.{[], _∷_}
 use native.Mathlib.Omega.{arith}
 use native.Mathlib.Nat.{eq-or-lt-of-le, le-of-suc-le-suc, not-suc-le-zero}
 use lib.Dec.{T, T-not}
-use Rattle.rules.specs.Rule.{Sheet, Within, Numbered}
+use Rattle.rules.specs.Rule.{Sheet, Within}
+use Rattle.rules.specs.inner.Fits.{Numbered}
 use Rattle.rules.specs.Stable.{Set, outside, Before, FirstOf, First, Model}
-use Rattle.rules.specs.Map.{Map, Literal, Holding, IsMap, want, is, total}
+use Rattle.rules.specs.Map.{Map, Holding, Over, IsMap, signed, want, is, total}
 use Rattle.rules.specs.Forcing.{Closed, Least, Contradiction, computed}
-use Rattle.rules.specs.Search.{Above, Lowest, On, Branch, Guess}
+use Rattle.rules.specs.inner.Search.{ModelOver, Lowest, OnSide, Branch}
 use Rattle.rules.proofs.Tests.{eq-T, ne-T, T-ne, T-true, T-false, decided, order}
 use Rattle.rules.proofs.Inside.{within?}
 use Rattle.rules.proofs.Maps.{sides, decided-within, want-apart, ⊑-trans}
 use Rattle.rules.proofs.Total.{total-in, total-out, in-total, out-total, stable-within, closed-stable}
-use Rattle.rules.proofs.Least.{holding-cons, holding-nil}
+use Rattle.rules.proofs.Least.{over-one, over-at}
 use Rattle.rules.proofs.Models.{model-closed, model-holding, holding-agrees}
 
 -- where two sets differ first, below a bound
@@ -62,11 +63,11 @@ firstOf-unique {Q} n within {S} {S′} f f′ a = step (differ S S′ (suc n))
 pub first-unique : {sh : Sheet} → Numbered sh → {S S′ : Set} → First sh S → First sh S′ → (a : ℕ) → S a ≡ S′ a
 first-unique {sh} ok = firstOf-unique {Q = Model sh} (sh .atoms) (λ S md. stable-within (ok .rules) (md .stable))
 
-on-total : (n : ℕ) (s : Bool) (X : Set) (a : ℕ) → Within n a → On s X a → total n X a ≡ want s
+on-total : (n : ℕ) (s : Bool) (X : Set) (a : ℕ) → Within n a → OnSide s X a → total n X a ≡ want s
 on-total n true X a w t = total-in X w t
 on-total n false X a w t = total-out X w t
 
-total-on : (n : ℕ) (s : Bool) (X : Set) (a : ℕ) → total n X a ≡ want s → On s X a
+total-on : (n : ℕ) (s : Bool) (X : Set) (a : ℕ) → total n X a ≡ want s → OnSide s X a
 total-on n true X a e = in-total n a X e
 total-on n false X a e = out-total n a X e
 
@@ -75,15 +76,15 @@ module _ {sh : Sheet} (ok : Numbered sh) where
   n = sh .atoms
 
   -- a decided atom is on that side in every model above
-  above-in : {M : Map} {S : Set} → Above sh M S → (a : ℕ) → M a ≡ 1 → T (S a)
+  above-in : {M : Map} {S : Set} → ModelOver sh M S → (a : ℕ) → M a ≡ 1 → T (S a)
   above-in {S = S} q a e = in-total n a S (q .1 .keeps true a e)
 
-  above-out : {M : Map} {S : Set} → Above sh M S → (a : ℕ) → M a ≡ 2 → T (outside S a)
+  above-out : {M : Map} {S : Set} → ModelOver sh M S → (a : ℕ) → M a ≡ 2 → T (outside S a)
   above-out {S = S} q a e = out-total n a S (q .1 .keeps false a e)
 
   module _ {M : Map} (mp : IsMap n M) {a : ℕ} (low : Lowest n M a) where
     -- models above the map agree before its lowest undecided atom
-    agree : {S S′ : Set} → Above sh M S → Above sh M S′ → (b : ℕ) → b < a → T (S b) → T (outside S′ b) → ⊥
+    agree : {S S′ : Set} → ModelOver sh M S → ModelOver sh M S′ → (b : ℕ) → b < a → T (S b) → T (outside S′ b) → ⊥
     agree {S} {S′} q q′ b l t u = step (sides (M b) (mp .sides b) true)
       where
         step : (M b ≡ 0) ⊎ ((M b ≡ 1) ⊎ (M b ≡ 2)) → ⊥
@@ -92,10 +93,10 @@ module _ {sh : Sheet} (ok : Numbered sh) where
         step (inr (inr e)) = T-not (S b) (above-out q b e) t
 
     -- with the atom in, where there is such a model
-    pub try-in : {S : Set} → FirstOf (Branch sh M a true) S → FirstOf (Above sh M) S
+    pub try-in : {S : Set} → FirstOf (Branch sh M a true) S → FirstOf (ModelOver sh M) S
     try-in {S} f = record { is = f .is .0; first = earlier }
       where
-        earlier : (X : Set) → Above sh M X → Before X S → ⊥
+        earlier : (X : Set) → ModelOver sh M X → Before X S → ⊥
         earlier X q b = case (order (b .at) a)
           where
             case : (b .at < a) ⊎ ((b .at ≡ a) ⊎ (a < b .at)) → ⊥
@@ -105,7 +106,7 @@ module _ {sh : Sheet} (ok : Numbered sh) where
 
     -- with the atom out, where no model has it in
     pub try-out :
-        ((X : Set) → Branch sh M a true X → ⊥) → {S : Set} → FirstOf (Branch sh M a false) S → FirstOf (Above sh M) S
+        ((X : Set) → Branch sh M a true X → ⊥) → {S : Set} → FirstOf (Branch sh M a false) S → FirstOf (ModelOver sh M) S
     try-out none {S} f =
         record {
           is = f .is .0;
@@ -114,46 +115,38 @@ module _ {sh : Sheet} (ok : Numbered sh) where
         }
 
     pub try-none :
-        ((X : Set) → Branch sh M a true X → ⊥) → ((X : Set) → Branch sh M a false X → ⊥) → (X : Set) → Above sh M X → ⊥
+        ((X : Set) → Branch sh M a true X → ⊥) → ((X : Set) → Branch sh M a false X → ⊥) → (X : Set) → ModelOver sh M X → ⊥
     try-none f g X q = ⊎-elim (λ (t : T (X a)). f X (q, t)) (λ (u : T (outside X a)). g X (q, u)) (decided (X a))
 
   -- a guess: the models above its closed map are those above the map before it that have the literal
   module _ (M : Map) (a : ℕ) (w : Within n a) (s : Bool) where
-    abbrev p : Literal
-    p = record { atom = a; sign = s }
+    guessed : (X : Set) → Branch sh M a s X → Over M (signed s a ∷ []) (total n X)
+    guessed X q = over-one s a (q .0 .1) (on-total n s X a w (q .1))
 
-    guessed : (X : Set) → Branch sh M a s X → Guess M a s (total n X)
-    guessed X q = (q .0 .1, holding-cons (total n X) p [] (on-total n s X a w (q .1)) (holding-nil (total n X)))
-
-    module _ {M₁ : Map} (l : Least (sh .rules) n (Guess M a s) M₁) where
-      onto-branch : (X : Set) → Above sh M₁ X → Branch sh M a s X
+    module _ {M₁ : Map} (l : Least (Closed (sh .rules) n) (Over M (signed s a ∷ [])) M₁) where
+      onto-branch : (X : Set) → ModelOver sh M₁ X → Branch sh M a s X
       onto-branch X q = (
-        (q .0, ⊑-trans (l .holding .0) (q .1)),
-        total-on
-            n
-            s
-            X
-            a
-            (q .1 .keeps s a (l .holding .1 p (List·Memᴰ·head refl))),
+        (q .0, ⊑-trans (l .holding .above) (q .1)),
+        total-on n s X a (q .1 .keeps s a (over-at s a (l .holding))),
       )
 
-      from-branch : (X : Set) → Branch sh M a s X → Above sh M₁ X
+      from-branch : (X : Set) → Branch sh M a s X → ModelOver sh M₁ X
       from-branch X q = (q .0 .0, l .below (total n X) (model-closed ok (q .0 .0)) (guessed X q))
 
-      pub branch-first : {S : Set} → FirstOf (Above sh M₁) S → FirstOf (Branch sh M a s) S
-      branch-first = first-same (Above sh M₁) (Branch sh M a s) onto-branch from-branch
+      pub branch-first : {S : Set} → FirstOf (ModelOver sh M₁) S → FirstOf (Branch sh M a s) S
+      branch-first = first-same (ModelOver sh M₁) (Branch sh M a s) onto-branch from-branch
 
-      pub branch-none : ((X : Set) → Above sh M₁ X → ⊥) → (X : Set) → Branch sh M a s X → ⊥
+      pub branch-none : ((X : Set) → ModelOver sh M₁ X → ⊥) → (X : Set) → Branch sh M a s X → ⊥
       branch-none none X q = none X (from-branch X q)
 
     -- no model has a literal that ends in contradiction
-    pub branch-clash : Contradiction (sh .rules) n (Guess M a s) → (X : Set) → Branch sh M a s X → ⊥
+    pub branch-clash : Contradiction (Closed (sh .rules) n) (Over M (signed s a ∷ [])) → (X : Set) → Branch sh M a s X → ⊥
     branch-clash c X q = c (total n X) (model-closed ok (q .0 .0)) (guessed X q)
 
   -- a closed map with no undecided atom is its own first model
   pub leaf :
       {M : Map} → Closed (sh .rules) n M → ((a : ℕ) → Within n a → M a ≡ 0 → ⊥) → Holding (computed sh) M
-      → FirstOf (Above sh M) (is 1 M)
+      → FirstOf (ModelOver sh M) (is 1 M)
   leaf {M} x all h = record { is = (md, record { keeps = keep }); first = earlier }
     where
       md : Model sh (is 1 M)
@@ -163,7 +156,7 @@ module _ {sh : Sheet} (ok : Numbered sh) where
       keep true a e = total-in (is 1 M) (decided-within (x .isMap) true a e) (eq-T e)
       keep false a e = total-out (is 1 M) (decided-within (x .isMap) false a e) (ne-T (λ o. want-apart true (sym o ∙ e)))
 
-      earlier : (X : Set) → Above sh M X → Before X (is 1 M) → ⊥
+      earlier : (X : Set) → ModelOver sh M X → Before X (is 1 M) → ⊥
       earlier X q b = step (sides (M (b .at)) (x .isMap .sides (b .at)) true)
         where
           step : (M (b .at) ≡ 0) ⊎ ((M (b .at) ≡ 1) ⊎ (M (b .at) ≡ 2)) → ⊥
@@ -172,12 +165,12 @@ module _ {sh : Sheet} (ok : Numbered sh) where
           step (inr (inr e)) = T-not (X (b .at)) (above-out q (b .at) e) (b .here)
 
   -- above the least map that holds the compute lists stand all agreeing stable models
-  module _ {M : Map} (l : Least (sh .rules) n (Holding (computed sh)) M) where
-    pub all-above : (X : Set) → Model sh X → Above sh M X
+  module _ {M : Map} (l : Least (Closed (sh .rules) n) (Holding (computed sh)) M) where
+    pub all-above : (X : Set) → Model sh X → ModelOver sh M X
     all-above X md = (md, l .below (total n X) (model-closed ok md) (model-holding ok md))
 
-    pub first-above : {S : Set} → FirstOf (Above sh M) S → First sh S
-    first-above f = first-same (Above sh M) (Model sh) (λ X q. q .0) all-above f
+    pub first-above : {S : Set} → FirstOf (ModelOver sh M) S → First sh S
+    first-above f = first-same (ModelOver sh M) (Model sh) (λ X q. q .0) all-above f
 
-  pub none-at-all : Contradiction (sh .rules) n (Holding (computed sh)) → (X : Set) → Model sh X → ⊥
+  pub none-at-all : Contradiction (Closed (sh .rules) n) (Holding (computed sh)) → (X : Set) → Model sh X → ⊥
   none-at-all c X md = c (total n X) (model-closed ok md) (model-holding ok md)

@@ -10,7 +10,7 @@ use lib.ListN.{length}
 use lib.Dec.{T}
 use Rattle.rules.specs.Sum.{has}
 use Rattle.rules.specs.Stable.{Set, Below}
-use Rattle.rules.specs.Paper.{those}
+use Rattle.rules.specs.shown.Paper.{those}
 use Rattle.rules.proofs.Tests.{has-mem, mem-has, decided}
 use Rattle.rules.proofs.Lists.{mem-length, those-mem, mem-those, those-split}
 

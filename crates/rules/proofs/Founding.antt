@@ -5,12 +5,13 @@ use mathlib.Core.List.{List, List·Memᴰ}
 use native.Mathlib.Omega.{arith}
 use lib.Dec.{T, leb, leb→le, le→leb}
 use Rattle.rules.specs.Sum.{has}
-use Rattle.rules.specs.Rule.{Rule, Weighted, Fits, body}
+use Rattle.rules.specs.Rule.{Rule, Weighted, body}
+use Rattle.rules.specs.inner.Fits.{Fits}
 use Rattle.rules.specs.Stable.{Set, value, Below}
 use Rattle.rules.specs.Map.{Map, isnt}
 use Rattle.rules.specs.Forcing.{Grounds, Founded}
 use Rattle.rules.proofs.Tests.{and-T, T-and-left, T-and-right, ne-T, T-ne}
-use Rattle.rules.proofs.Lists.{some, some-T, T-some, upTo, within-upTo}
+use Rattle.rules.proofs.Lists.{some, some-T, T-some, downFrom, within-upTo}
 use Rattle.rules.proofs.Value.{by, value-mono}
 use Rattle.rules.proofs.Fixpoint.{smallest, smallest-closed, smallest-below, smallest-passes}
 
@@ -48,10 +49,10 @@ module _ (P : List Rule) (M : Map) where
 
   -- U among the atoms 1 to n
   abbrev pub U : ℕ → Set
-  U n = smallest granted (upTo n)
+  U n = smallest granted (downFrom n)
 
   module _ {n : ℕ} (fits : Fits n P) where
-    only : (C : Set) (a : ℕ) → T (granted C a) → List·Memᴰ a (upTo n)
+    only : (C : Set) (a : ℕ) → T (granted C a) → List·Memᴰ a (downFrom n)
     only C a t =
         let k = some-T (grants M C a) P (T-and-right (isnt 2 M a) (some (grants M C a) P) t) in
         within-upTo
@@ -68,7 +69,7 @@ module _ (P : List Rule) (M : Map) where
           noneOut =
               λ a t e.
               T-ne
-              (T-and-left (isnt 2 M a) (some (grants M (U n) a) P) (smallest-passes granted granted-mono (upTo n) only a t))
+              (T-and-left (isnt 2 M a) (some (grants M (U n) a) P) (smallest-passes granted granted-mono (downFrom n) only a t))
               e;
           holdsHeads =
               λ r m a h o k.
@@ -87,13 +88,13 @@ module _ (P : List Rule) (M : Map) where
               h
               (le→leb (r .need) (value r (U n) (isnt 1 M)) k)))
               in
-              smallest-closed granted granted-mono (upTo n) a (only (U n) a t) t;
+              smallest-closed granted granted-mono (downFrom n) a (only (U n) a t) t;
         }
 
     pub U-founded : (a : ℕ) → T (U n a) → Founded P M a
-    U-founded a t C g = smallest-below granted granted-mono (upTo n) C closed a t
+    U-founded a t C g = smallest-below granted granted-mono (downFrom n) C closed a t
       where
-        closed : (b : ℕ) → List·Memᴰ b (upTo n) → T (granted C b) → T (C b)
+        closed : (b : ℕ) → List·Memᴰ b (downFrom n) → T (granted C b) → T (C b)
         closed b i u =
             let k = some-T (grants M C b) P (T-and-right (isnt 2 M b) (some (grants M C b) P) u) in
             g .holdsHeads

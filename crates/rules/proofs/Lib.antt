@@ -8,6 +8,7 @@ pub mod Total
 pub mod Members
 pub mod Least
 pub mod Models
+pub mod Testing
 pub mod Shuffle
 pub mod First
 pub mod Lists
@@ -22,3 +23,5 @@ pub mod Opening
 pub mod Searching
 pub mod Cases
 pub mod Mistakes
+pub mod Tight
+pub mod Signed

@@ -9,7 +9,7 @@ use native.Mathlib.Nat.{eq-or-lt-of-le}
 use lib.ListN.{length}
 use lib.Dec.{T}
 use Rattle.rules.specs.Rule.{Within}
-use Rattle.rules.specs.Paper.{those}
+use Rattle.rules.specs.shown.Paper.{those}
 use Rattle.rules.proofs.Tests.{T-or, or-left, or-right, and-T, T-and-left, T-and-right}
 
 module _ {A : Type 0} where
@@ -123,22 +123,22 @@ module _ {A : Type 0} where
   mem-guard false t m = absurd t
 
 -- the numbers 1 to n, the last first
-abbrev pub upTo : ℕ → List ℕ
-upTo zero = []
-upTo (suc n) = suc n ∷ upTo n
+abbrev pub downFrom : ℕ → List ℕ
+downFrom zero = []
+downFrom (suc n) = suc n ∷ downFrom n
 
-pub upTo-within : (n : ℕ) {a : ℕ} → List·Memᴰ a (upTo n) → Within n a
-upTo-within zero m = absurd (List·Memᴰ·not-nil m)
-upTo-within (suc n) {a} m = step (List·Memᴰ·cases-cons m) (upTo-within n)
+pub downFrom-within : (n : ℕ) {a : ℕ} → List·Memᴰ a (downFrom n) → Within n a
+downFrom-within zero m = absurd (List·Memᴰ·not-nil m)
+downFrom-within (suc n) {a} m = step (List·Memᴰ·cases-cons m) (downFrom-within n)
   where
-    step : (a ≡ suc n) ⊎ List·Memᴰ a (upTo n) → (List·Memᴰ a (upTo n) → Within n a) → Within (suc n) a
+    step : (a ≡ suc n) ⊎ List·Memᴰ a (downFrom n) → (List·Memᴰ a (downFrom n) → Within n a) → Within (suc n) a
     step (inl e) rest = record { low = omega (arith, e); high = omega (arith, e) }
     step (inr k) rest = let w = rest k in record { low = w .low; high = omega (arith, w .high) }
 
-pub within-upTo : (n : ℕ) {a : ℕ} → Within n a → List·Memᴰ a (upTo n)
+pub within-upTo : (n : ℕ) {a : ℕ} → Within n a → List·Memᴰ a (downFrom n)
 within-upTo zero {a} w = absurd (omega (arith, w .low, w .high))
 within-upTo (suc n) {a} w = step (eq-or-lt-of-le (w .high)) (within-upTo n)
   where
-    step : (a ≡ suc n) ⊎ (a < suc n) → (Within n a → List·Memᴰ a (upTo n)) → List·Memᴰ a (suc n ∷ upTo n)
+    step : (a ≡ suc n) ⊎ (a < suc n) → (Within n a → List·Memᴰ a (downFrom n)) → List·Memᴰ a (suc n ∷ downFrom n)
     step (inl e) rest = List·Memᴰ·head e
     step (inr l) rest = List·Memᴰ·tail (rest (record { low = w .low; high = omega (arith, l) }))

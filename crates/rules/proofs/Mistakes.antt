@@ -1,17 +1,17 @@
 -- The tempting mistakes, as facts: a set that satisfies every rule need not be stable, a closed map need not have a model, a choice
 -- rule forces none of its heads, and an atom with two rules that can still give it forces nothing in their bodies.
 use mathlib.Core.Path.{subst}
-use mathlib.Core.Bool.{false}
+use mathlib.Core.Bool.{false, true}
 use mathlib.Core.List.{List, [], _∷_, List·Memᴰ·eq-of-singleton}
 use native.Mathlib.Omega.{arith}
 use lib.Dec.{T}
 use Rattle.rules.specs.Sum.{tally, has}
 use Rattle.rules.specs.Rule.{Rule, basicRule, choiceRule}
 use Rattle.rules.specs.Stable.{Set, Gives, Contains, Stable, NoModel, value}
-use Rattle.rules.specs.Map.{side}
-use Rattle.rules.specs.Forcing.{Closed, inn}
-use Rattle.rules.specs.Paper.{those}
-use Rattle.rules.specs.Cases.{Case, Proved, bytes, nothing, sheet}
+use Rattle.rules.specs.Map.{side, signed}
+use Rattle.rules.specs.Forcing.{Closed}
+use Rattle.rules.specs.shown.Paper.{those}
+use Rattle.rules.specs.shown.Cases.{WorkedCase, Proved, bytes, nothing, sheet}
 use Rattle.rules.proofs.Fixpoint.{grow}
 use Rattle.rules.proofs.Closing.{closing}
 use Rattle.rules.proofs.Opening.{opening, taking}
@@ -40,7 +40,7 @@ not-stable st = st .smallest (λ _. false) empty 1 tt
         omega (arith, g′ .holds)
 
 -- 1 ← not 1
-abbrev itsDenial : Case
+abbrev itsDenial : WorkedCase
 itsDenial = record { sheet = sheet 1 (basicRule 1 [] (1 ∷ []) ∷ []); pins = []; map = bytes (0 ∷ []); model = nothing }
 
 denial : Proved itsDenial
@@ -52,7 +52,7 @@ pub closed-no-model : Closed (itsDenial .sheet .rules) 1 (side 1 (0 ∷ [])) × 
 closed-no-model = (denial .map .closed, denial .model)
 
 -- choice {1}: nothing is forced
-abbrev mayBeTaken : Case
+abbrev mayBeTaken : WorkedCase
 mayBeTaken = record { sheet = sheet 1 (choiceRule (1 ∷ []) [] [] ∷ []); pins = []; map = bytes (0 ∷ []); model = bytes (1 ∷ []) }
 
 taken : Proved mayBeTaken
@@ -63,11 +63,11 @@ pub choice-forces-none : Closed (mayBeTaken .sheet .rules) 1 (side 1 (0 ∷ []))
 choice-forces-none = taken .map .closed
 
 -- choice {2, 3}; 1 ← 2; 1 ← 3; pin 1 in: either rule can still give 1, so neither 2 nor 3 is forced
-abbrev twoRules : Case
+abbrev twoRules : WorkedCase
 twoRules =
     record {
       sheet = sheet 3 (choiceRule (2 ∷ 3 ∷ []) [] [] ∷ basicRule 1 (2 ∷ []) [] ∷ basicRule 1 (3 ∷ []) [] ∷ []);
-      pins = inn 1 ∷ [];
+      pins = signed true 1 ∷ [];
       map = bytes (1 ∷ 0 ∷ 0 ∷ []);
       model = bytes (1 ∷ 1 ∷ 1 ∷ []);
     }

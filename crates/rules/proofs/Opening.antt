@@ -9,11 +9,12 @@ use native.Mathlib.Omega.{arith}
 use lib.ListN.{length, set, length-set, replicate, length-replicate, getD-replicate}
 use lib.Dec.{T, eqb}
 use Rattle.rules.specs.Sum.{counted, tally}
-use Rattle.rules.specs.Rule.{Sheet, Within, Numbered}
-use Rattle.rules.specs.Map.{Map, Literal, Holding, IsMap, side, want, _⊑_}
-use Rattle.rules.specs.Forcing.{Least, Contradiction, Pinned, computed, inn, out}
+use Rattle.rules.specs.Rule.{Sheet, Within}
+use Rattle.rules.specs.inner.Fits.{Numbered}
+use Rattle.rules.specs.Map.{Map, Literal, Holding, IsMap, side, want, _⊑_, signed}
+use Rattle.rules.specs.Forcing.{Least, Contradiction, Pinned, computed, Closed}
 use Rattle.rules.proofs.Tests.{eq-T, T-eq, mem-has}
-use Rattle.rules.proofs.Lists.{upTo}
+use Rattle.rules.proofs.Lists.{downFrom}
 use Rattle.rules.proofs.Members.{map-mem}
 use Rattle.rules.proofs.Inside.{within?}
 use Rattle.rules.proofs.Maps.{sides, want-decided, want-apart}
@@ -157,16 +158,16 @@ opening sh ps =
     then (taking (sh .atoms) (zeros (sh .atoms)) (computed sh ++ ps)) (λ m. closing (sh .rules) (sh .atoms) (suc (sh .atoms)) m)
 
 abbrev pub Opened : Sheet → List Literal → Ending → Type 0
-Opened sh ps (closedAt m) = Least (sh .rules) (sh .atoms) (Pinned sh ps) (side (sh .atoms) m) × (sh .atoms ≤ length m)
-Opened sh ps clash = Contradiction (sh .rules) (sh .atoms) (Pinned sh ps)
+Opened sh ps (closedAt m) = Least (Closed (sh .rules) (sh .atoms)) (Pinned sh ps) (side (sh .atoms) m) × (sh .atoms ≤ length m)
+Opened sh ps clash = Contradiction (Closed (sh .rules) (sh .atoms)) (Pinned sh ps)
 
 -- there are at most n undecided atoms
-pub few : (k : ℕ) (p : ℕ → Bool) → tally p (λ _. 1) (upTo k) ≤ k
+pub few : (k : ℕ) (p : ℕ → Bool) → tally p (λ _. 1) (downFrom k) ≤ k
 unfolding tally
 few zero p = omega arith
 few (suc k) p = step (p (suc k)) (few k p)
   where
-    step : (b : Bool) → tally p (λ _. 1) (upTo k) ≤ k → counted b 1 + tally p (λ _. 1) (upTo k) ≤ suc k
+    step : (b : Bool) → tally p (λ _. 1) (downFrom k) ≤ k → counted b 1 + tally p (λ _. 1) (downFrom k) ≤ suc k
     step true h = omega arith
     step false h = omega arith
 
@@ -177,13 +178,13 @@ module _ {sh : Sheet} (ok : Numbered sh) (ps : List Literal) (w : AllWithin (sh 
   computed-within : AllWithin n (computed sh)
   computed-within p i =
       ⊎-elim
-      (λ (j : List·Memᴰ p (map inn (sh .computeIn))).
-      let t = map-mem inn (sh .computeIn) j in
+      (λ (j : List·Memᴰ p (map (signed true) (sh .computeIn))).
+      let t = map-mem (signed true) (sh .computeIn) j in
       subst (λ (q : Literal). Within n (q .atom)) (sym (t .2)) (ok .computeIn (t .0) (mem-has (t .1))))
-      (λ (j : List·Memᴰ p (map out (sh .computeOut))).
-      let t = map-mem out (sh .computeOut) j in
+      (λ (j : List·Memᴰ p (map (signed false) (sh .computeOut))).
+      let t = map-mem (signed false) (sh .computeOut) j in
       subst (λ (q : Literal). Within n (q .atom)) (sym (t .2)) (ok .computeOut (t .0) (mem-has (t .1))))
-      (List·Memᴰ·append-cases (map inn (sh .computeIn)) i)
+      (List·Memᴰ·append-cases (map (signed true) (sh .computeIn)) i)
 
   all-within : AllWithin n (computed sh ++ ps)
   all-within p i = ⊎-elim (computed-within p) (w p) (List·Memᴰ·append-cases (computed sh) i)
@@ -217,11 +218,11 @@ module _ {sh : Sheet} (ok : Numbered sh) (ps : List Literal) (w : AllWithin (sh 
 
   -- one of the two there is
   pub least-or-none :
-      ((M : Map) × Least (sh .rules) n (Pinned sh ps) M) ⊎ Contradiction (sh .rules) n (Pinned sh ps)
+      ((M : Map) × Least (Closed (sh .rules) n) (Pinned sh ps) M) ⊎ Contradiction (Closed (sh .rules) n) (Pinned sh ps)
   least-or-none = step (opening sh ps) opening-right
     where
       step :
           (e : Ending) → Opened sh ps e
-          → ((M : Map) × Least (sh .rules) n (Pinned sh ps) M) ⊎ Contradiction (sh .rules) n (Pinned sh ps)
+          → ((M : Map) × Least (Closed (sh .rules) n) (Pinned sh ps) M) ⊎ Contradiction (Closed (sh .rules) n) (Pinned sh ps)
       step (closedAt m) r = inl (side n m, r .0)
       step clash r = inr r

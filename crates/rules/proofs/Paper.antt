@@ -12,7 +12,7 @@ use lib.Dec.{T, eqb, leb, leb→le, le→leb}
 use Rattle.rules.specs.Sum.{counted, tally, has}
 use Rattle.rules.specs.Rule.{Rule, Weighted, ones}
 use Rattle.rules.specs.Stable.{Set, outside, gain, value, Gives, Contains, Stable}
-use Rattle.rules.specs.Paper.{PaperRule, basic, constraint, choice, weight, all, those, sum, size, weightIn, fᵣ, InUnion, Closure, PaperStable, asRule}
+use Rattle.rules.specs.shown.Paper.{PaperRule, basic, constraint, choice, weight, all, those, sum, size, weightIn, fᵣ, InUnion, Closure, PaperStable, asRule}
 use Rattle.rules.proofs.Tests.{and-T, T-and-left, T-and-right, T-or, or-left}
 use Rattle.rules.proofs.Lists.{those-split}
 use Rattle.rules.proofs.Members.{map-mem, mem-map}

@@ -4,25 +4,26 @@ use Prim.Native.Nat.{ℕ, zero, suc, _-_, _≤_, _<_}
 use mathlib.Core.Path.{_≡_, refl, sym, _∙_, subst, ap}
 use mathlib.Core.Logic.{_⊎_, inl, inr, ⊎-elim}
 use mathlib.Core.Bool.{Bool, true, false, cond}
-use mathlib.Core.List.{List, [], _++_, List·Memᴰ·head, List·Memᴰ·not-nil}
+use mathlib.Core.List.{List, [], _++_, List·Memᴰ·not-nil, _∷_}
 use native.Mathlib.Omega.{arith}
 use native.Mathlib.Nat.{not-suc-le-zero, eq-or-lt-of-le}
 use lib.ListN.{length, set, length-set}
 use lib.Dec.{T, eqb}
-use Rattle.rules.specs.Rule.{Rule, Sheet, Within, Numbered}
+use Rattle.rules.specs.Rule.{Rule, Sheet, Within}
+use Rattle.rules.specs.inner.Fits.{Numbered}
 use Rattle.rules.specs.Stable.{Set, FirstOf, First, NoModel}
-use Rattle.rules.specs.Map.{Map, Literal, Holding, IsMap, side, want, is, total, _⊑_}
+use Rattle.rules.specs.Map.{Map, Holding, Over, IsMap, side, signed, want, is, total, _⊑_}
 use Rattle.rules.specs.Forcing.{Closed, Least, Pinned, computed}
-use Rattle.rules.specs.Search.{Above, Lowest, Branch, Guess}
+use Rattle.rules.specs.inner.Search.{ModelOver, Lowest, Branch}
 use Rattle.rules.proofs.Tests.{eq-T, T-eq}
 use Rattle.rules.proofs.Sum.{tally-mono}
-use Rattle.rules.proofs.Lists.{upTo}
-use Rattle.rules.proofs.Maps.{sides, want-decided, ⊑-trans}
-use Rattle.rules.proofs.Bytes.{written-same, written-above, written-below, written-map}
-use Rattle.rules.proofs.Least.{holding-nil, holding-cons, holding-append, holding-up, holding-left, least-same, contradiction-same}
+use Rattle.rules.proofs.Lists.{downFrom}
+use Rattle.rules.proofs.Maps.{sides, want-decided}
+use Rattle.rules.proofs.Bytes.{over-written, written-over, written-map}
+use Rattle.rules.proofs.Least.{holding-nil, holding-append, holding-up, holding-left, least-same, contradiction-same}
 use Rattle.rules.proofs.Models.{model-closed, model-holding}
 use Rattle.rules.proofs.First.{try-in, try-out, try-none, branch-first, branch-none, branch-clash, leaf, first-above, none-at-all}
-use Rattle.rules.proofs.Closing.{Ending, closedAt, clash, closing, closing-right, undecided, undecided-falls, Right}
+use Rattle.rules.proofs.Closing.{Ending, closedAt, clash, closing, closing-right, openCount, undecided-falls, Right}
 use Rattle.rules.proofs.Opening.{few, opening, opening-right, Opened}
 
 abbrev orNext : ℕ → ℕ → ℕ
@@ -73,15 +74,15 @@ lowest-right M (suc k) = step (lowest M k) (lowest-right M k)
           lower = λ b w lt z. l .lower b (record { low = w .low; high = omega (arith, lt, l .within .high) }) lt z;
         }
 
-pub data Found : Type 0 where
-  model : List ℕ → Found
-  noModel : Found
+pub data SearchAnswer : Type 0 where
+  model : List ℕ → SearchAnswer
+  noModel : SearchAnswer
 
-abbrev orElse : Found → (ℕ → Found) → ℕ → Found
+abbrev orElse : SearchAnswer → (ℕ → SearchAnswer) → ℕ → SearchAnswer
 orElse (model m) f a = model m
 orElse noModel f a = f a
 
-abbrev onClosed : Ending → (List ℕ → Found) → Found
+abbrev onClosed : Ending → (List ℕ → SearchAnswer) → SearchAnswer
 onClosed (closedAt m) f = f m
 onClosed clash f = noModel
 
@@ -89,23 +90,23 @@ module _ (P : List Rule) (n : ℕ) where
   abbrev guess : Bool → List ℕ → ℕ → List ℕ
   guess s m a = set m (a - 1) (want s)
 
-  abbrev at : (List ℕ → Found) → List ℕ → ℕ → Found
+  abbrev at : (List ℕ → SearchAnswer) → List ℕ → ℕ → SearchAnswer
   at f m zero = model m
   at f m (suc a) =
       orElse (onClosed (closing P n (suc n) (guess true m (suc a))) f) (λ b. onClosed (closing P n (suc n) (guess false m b)) f) (suc a)
 
-  unfoldable pub searching : ℕ → List ℕ → Found
+  unfoldable pub searching : ℕ → List ℕ → SearchAnswer
   searching zero m = noModel
   searching (suc k) m = at (λ q. searching k q) m (lowest (side n m) n)
 
 -- fewer undecided atoms above
-undecided-mono : (n : ℕ) (m q : List ℕ) → side n m ⊑ side n q → IsMap n (side n m) → undecided n q ≤ undecided n m
+undecided-mono : (n : ℕ) (m q : List ℕ) → side n m ⊑ side n q → IsMap n (side n m) → openCount n q ≤ openCount n m
 undecided-mono n m q f mp =
     tally-mono
     (λ a. eqb (side n q a) 0)
     (λ a. eqb (side n m a) 0)
     (λ _. 1)
-    (upTo n)
+    (downFrom n)
     (λ a _ t. step a (T-eq t) (sides (side n m a) (mp .sides a) true))
   where
     step : (a : ℕ) → side n q a ≡ 0 → (side n m a ≡ 0) ⊎ ((side n m a ≡ 1) ⊎ (side n m a ≡ 2)) → T (eqb (side n m a) 0)
@@ -121,42 +122,31 @@ module _ {sh : Sheet} (ok : Numbered sh) where
   P = sh .rules
 
   -- the answer for the models that satisfy Q
-  abbrev FoundRight : (Set → Type 0) → Found → Type 0
+  abbrev FoundRight : (Set → Type 0) → SearchAnswer → Type 0
   FoundRight Q (model m) = FirstOf Q (is 1 (side n m))
   FoundRight Q noModel = (X : Set) → Q X → ⊥
 
   abbrev Searched : ℕ → Type 0
   Searched k =
-      (m : List ℕ) → Closed P n (side n m) → Holding (computed sh) (side n m) → n ≤ length m → undecided n m < k
-      → FoundRight (Above sh (side n m)) (searching P n k m)
+      (m : List ℕ) → Closed P n (side n m) → Holding (computed sh) (side n m) → n ≤ length m → openCount n m < k
+      → FoundRight (ModelOver sh (side n m)) (searching P n k m)
 
-  module _ (k : ℕ) (rec : Searched k) (m : List ℕ) (x : Closed P n (side n m)) (held : Holding (computed sh) (side n m)) (long : n ≤ length m) (less : undecided n m < suc k) where
+  module _ (k : ℕ) (rec : Searched k) (m : List ℕ) (x : Closed P n (side n m)) (held : Holding (computed sh) (side n m)) (long : n ≤ length m) (less : openCount n m < suc k) where
     abbrev M : Map
     M = side n m
 
     module _ (a : ℕ) (low : Lowest n (side n m) a) where
       module _ (s : Bool) where
-        abbrev p : Literal
-        p = record { atom = a; sign = s }
-
         abbrev g : List ℕ
         g = guess P n s m a
 
-        asked : (X : Map) → side n g ⊑ X → Guess M a s X
-        asked X f = (
-          ⊑-trans (written-above n m a (low .within) long (want s) (low .undecided)) f,
-          holding-cons
-              X
-              p
-              []
-              (f .keeps s a (written-same n m a (low .within) long (want s)))
-              (holding-nil X),
-        )
+        asked : (X : Map) → side n g ⊑ X → Over M (signed s a ∷ []) X
+        asked = over-written n m a (low .within) long s (low .undecided)
 
-        answered : (X : Map) → Guess M a s X → side n g ⊑ X
-        answered X q = written-below n m a (low .within) long (want s) X (q .0) (q .1 p (List·Memᴰ·head refl))
+        answered : (X : Map) → Over M (signed s a ∷ []) X → side n g ⊑ X
+        answered = written-over n m a (low .within) long s (low .undecided)
 
-        pass : (q : List ℕ) → Least P n (Guess M a s) (side n q) → (f : Found) → FoundRight (Above sh (side n q)) f → FoundRight (Branch sh M a s) f
+        pass : (q : List ℕ) → Least (Closed P n) (Over M (signed s a ∷ [])) (side n q) → (f : SearchAnswer) → FoundRight (ModelOver sh (side n q)) f → FoundRight (Branch sh M a s) f
         pass q l (model r) h = branch-first ok M a (low .within) s l h
         pass q l noModel h = branch-none ok M a (low .within) s l h
 
@@ -176,7 +166,7 @@ module _ {sh : Sheet} (ok : Numbered sh) where
           where
             step : (e : Ending) → Right P n g e → FoundRight (Branch sh M a s) (onClosed e (λ q. searching P n k q))
             step (closedAt q) r =
-                let l : Least P n (Guess M a s) (side n q) = least-same (λ X. side n g ⊑ X) (Guess M a s) asked answered (r .0) in
+                let l : Least (Closed P n) (Over M (signed s a ∷ [])) (side n q) = least-same (λ X. side n g ⊑ X) (Over M (signed s a ∷ [])) asked answered (r .0) in
                 pass
                 q
                 l
@@ -184,7 +174,7 @@ module _ {sh : Sheet} (ok : Numbered sh) where
                 (rec
                 q
                 (l .closed)
-                (holding-up (computed sh) (l .holding .0) held)
+                (holding-up (computed sh) (l .holding .above) held)
                 (omega (arith, r .1, length-set m (a - 1) (want s), long))
                 (omega (
                   arith,
@@ -200,19 +190,19 @@ module _ {sh : Sheet} (ok : Numbered sh) where
                   less,
                 )))
             step clash r =
-                branch-clash ok M a (low .within) s (contradiction-same (λ Y. side n g ⊑ Y) (Guess M a s) answered r)
+                branch-clash ok M a (low .within) s (contradiction-same (λ Y. side n g ⊑ Y) (Over M (signed s a ∷ [])) answered r)
 
-      otherwise : ((X : Set) → Branch sh M a true X → ⊥) → (f : Found) → FoundRight (Branch sh M a false) f → FoundRight (Above sh M) f
+      otherwise : ((X : Set) → Branch sh M a true X → ⊥) → (f : SearchAnswer) → FoundRight (Branch sh M a false) f → FoundRight (ModelOver sh M) f
       otherwise none (model r) h = try-out ok (x .isMap) low none h
       otherwise none noModel h = try-none ok (x .isMap) low none h
 
       both :
-          (f : Found) (f′ : ℕ → Found) → FoundRight (Branch sh M a true) f → FoundRight (Branch sh M a false) (f′ a)
-          → FoundRight (Above sh M) (orElse f f′ a)
+          (f : SearchAnswer) (f′ : ℕ → SearchAnswer) → FoundRight (Branch sh M a true) f → FoundRight (Branch sh M a false) (f′ a)
+          → FoundRight (ModelOver sh M) (orElse f f′ a)
       both (model r) f′ h h′ = try-in ok (x .isMap) low h
       both noModel f′ h h′ = otherwise h (f′ a) h′
 
-    found : (a : ℕ) → LowestRight (side n m) n a → FoundRight (Above sh M) (at P n (λ q. searching P n k q) m a)
+    found : (a : ℕ) → LowestRight (side n m) n a → FoundRight (ModelOver sh M) (at P n (λ q. searching P n k q) m a)
     found zero none = leaf ok x none held
     found (suc a) low =
         both
@@ -230,10 +220,10 @@ module _ {sh : Sheet} (ok : Numbered sh) where
       found k (searching-right k) m x held long less (lowest (side n m) n) (lowest-right (side n m) n)
 
 -- the first model of a sheet
-unfoldable pub solving : Sheet → Found
+unfoldable pub solving : Sheet → SearchAnswer
 solving sh = onClosed (opening sh []) (λ m. searching (sh .rules) (sh .atoms) (suc (sh .atoms)) m)
 
-abbrev pub Solved : Sheet → Found → Type 0
+abbrev pub Solved : Sheet → SearchAnswer → Type 0
 Solved sh (model m) = First sh (is 1 (side (sh .atoms) m))
 Solved sh noModel = NoModel sh
 
@@ -248,7 +238,7 @@ solving-right {sh} ok = step (opening sh []) (opening-right ok [] (λ p i. absur
     whole X h = holding-append X (computed sh) [] h (holding-nil X)
 
     finish :
-        (m : List ℕ) → Least (sh .rules) n (Holding (computed sh)) (side n m) → (f : Found) → FoundRight ok (Above sh (side n m)) f
+        (m : List ℕ) → Least (Closed (sh .rules) n) (Holding (computed sh)) (side n m) → (f : SearchAnswer) → FoundRight ok (ModelOver sh (side n m)) f
         → Solved sh f
     finish m l (model q) h = first-above ok l h
     finish m l noModel h = λ X md. h X (md, l .below (total n X) (model-closed ok md) (model-holding ok md))
@@ -256,7 +246,7 @@ solving-right {sh} ok = step (opening sh []) (opening-right ok [] (λ p i. absur
     step : (e : Ending) → Opened sh [] e → Solved sh (onClosed e (λ m. searching (sh .rules) n (suc n) m))
     step (closedAt m) r =
         let
-        l : Least (sh .rules) n (Holding (computed sh)) (side n m)
+        l : Least (Closed (sh .rules) n) (Holding (computed sh)) (side n m)
         = least-same (Pinned sh []) (Holding (computed sh)) (λ X h. holding-left X (computed sh) [] h) whole (r .0)
         in
         finish

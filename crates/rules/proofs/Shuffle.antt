@@ -1,14 +1,16 @@
 -- The order of the rules changes nothing: every definition asks of the list only which rules it has, and how many of them pass a
 -- test, and both are the same after a change of order.
+use mathlib.Core.Bool.{true, false}
+use Rattle.rules.proofs.Least.{holding-append, least-same, contradiction-same, least-alike, contradiction-alike, holding-left, holding-set, holding-right, same-sym}
 use Prim.Native.Nat.{ℕ}
-use mathlib.Core.Path.{_≡_, sym, subst, _∙_}
-use mathlib.Core.List.{List, List·Memᴰ, List·Permᴰ, Permᴰ·symm}
+use mathlib.Core.Path.{_≡_, sym, subst, _∙_, ap₂}
+use mathlib.Core.List.{List, List·Memᴰ, List·Permᴰ, Permᴰ·symm, map, _++_}
 use lib.Dec.{T}
 use Rattle.rules.specs.Sum.{has}
 use Rattle.rules.specs.Rule.{Rule, Sheet, Shuffled}
 use Rattle.rules.specs.Stable.{Set, Stable, Model, First}
-use Rattle.rules.specs.Map.{Map}
-use Rattle.rules.specs.Forcing.{Closed, Founded, Grounds, Least, Contradiction, supports, supporters}
+use Rattle.rules.specs.Map.{Map, Literal, Holding, signed}
+use Rattle.rules.specs.Forcing.{Closed, Founded, Grounds, supports, supporters, SameSet, computed, Pinned, Least, Contradiction}
 use Rattle.rules.proofs.Sum.{tally-perm}
 use Rattle.rules.proofs.Members.{perm-mem}
 
@@ -53,19 +55,6 @@ module _ {P P′ : List Rule} (k : Alike P P′) where
         fourth = λ a w o. founded-alike M a (x .fourth a w o);
       }
 
-pub least-alike :
-    {P P′ : List Rule} → Alike P P′ → {n : ℕ} (Q : Map → Type 0) {M : Map} → Least P n Q M → Least P′ n Q M
-least-alike k Q l =
-    record {
-      closed = closed-alike k (l .closed);
-      holding = l .holding;
-      below = λ X x q. l .below X (closed-alike (alike-sym k) x) q;
-    }
-
-pub contradiction-alike :
-    {P P′ : List Rule} → Alike P P′ → {n : ℕ} (Q : Map → Type 0) → Contradiction P n Q → Contradiction P′ n Q
-contradiction-alike k Q c X x q = c X (closed-alike (alike-sym k) x) q
-
 pub shuffled-sym : {sh sh′ : Sheet} → Shuffled sh sh′ → Shuffled sh′ sh
 shuffled-sym k =
     record {
@@ -89,3 +78,43 @@ model-shuffled k S md =
 pub first-shuffled : {sh sh′ : Sheet} → Shuffled sh sh′ → (S : Set) → First sh S → First sh′ S
 first-shuffled k S f =
     record { is = model-shuffled k S (f .is); first = λ S′ md b. f .first S′ (model-shuffled (shuffled-sym k) S′ md) b }
+
+-- two sheets that differ only in the order of their rules, and the same pins: the same least map, or no map of either
+module _ {sh sh′ : Sheet} (k : Shuffled sh sh′) {ps ps′ : List Literal} (same : SameSet ps ps′) where
+  computed-same : computed sh ≡ computed sh′
+  computed-same = ap₂ (λ (xs ys : List ℕ). map (signed true) xs ++ map (signed false) ys) (k .computeIn) (k .computeOut)
+
+  pinned-onto : (X : Map) → Pinned sh ps X → Pinned sh′ ps′ X
+  pinned-onto X h =
+      holding-append
+      X
+      (computed sh′)
+      ps′
+      (subst (λ (l : List Literal). Holding l X) computed-same (holding-left X (computed sh) ps h))
+      (holding-set same X (holding-right X (computed sh) ps h))
+
+  pinned-back : (X : Map) → Pinned sh′ ps′ X → Pinned sh ps X
+  pinned-back X h =
+      holding-append
+      X
+      (computed sh)
+      ps
+      (subst (λ (l : List Literal). Holding l X) (sym computed-same) (holding-left X (computed sh′) ps′ h))
+      (holding-set (same-sym same) X (holding-right X (computed sh′) ps′ h))
+
+  closed-onto : (X : Map) → Closed (sh .rules) (sh .atoms) X → Closed (sh′ .rules) (sh′ .atoms) X
+  closed-onto X x = subst (λ (n : ℕ). Closed (sh′ .rules) n X) (k .atoms) (closed-alike (shuffled (k .rules)) x)
+
+  closed-back : (X : Map) → Closed (sh′ .rules) (sh′ .atoms) X → Closed (sh .rules) (sh .atoms) X
+  closed-back X x =
+      closed-alike (alike-sym (shuffled (k .rules))) (subst (λ (n : ℕ). Closed (sh′ .rules) n X) (sym (k .atoms)) x)
+
+  pub least-shuffled :
+      {M : Map} → Least (Closed (sh .rules) (sh .atoms)) (Pinned sh ps) M → Least (Closed (sh′ .rules) (sh′ .atoms)) (Pinned sh′ ps′) M
+  least-shuffled l =
+      least-same (Pinned sh ps) (Pinned sh′ ps′) pinned-onto pinned-back (least-alike closed-onto closed-back l)
+
+  pub contradiction-shuffled :
+      Contradiction (Closed (sh .rules) (sh .atoms)) (Pinned sh ps) → Contradiction (Closed (sh′ .rules) (sh′ .atoms)) (Pinned sh′ ps′)
+  contradiction-shuffled c =
+      contradiction-same (Pinned sh ps) (Pinned sh′ ps′) pinned-back (contradiction-alike closed-onto closed-back c)

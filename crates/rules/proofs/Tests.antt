@@ -1,5 +1,5 @@
 -- Tests on numbers and on lists as facts, and back.
-use Prim.Native.Nat.{ℕ, _<_}
+use Prim.Native.Nat.{ℕ, _≤_, _<_}
 use mathlib.Core.Path.{_≡_, refl, sym, subst}
 use mathlib.Core.Logic.{_⊎_, inl, inr, ⊎-elim}
 use mathlib.Core.Bool.{Bool, true, false, not, _&&_, _||_, Bool·beq}
@@ -68,6 +68,14 @@ double false t = t
 pub decided : (b : Bool) → T b ⊎ T (not b)
 decided true = inl tt
 decided false = inr tt
+
+-- below n, or not
+pub below? : (i n : ℕ) → (i < n) ⊎ (n ≤ i)
+below? i n =
+    ⊎-elim
+    (λ (t : T (ltb i n)). inl (ltb→lt i n t))
+    (λ (t : T (not (ltb i n))). inr (nltb→le i n t))
+    (decided (ltb i n))
 
 pub T-or : (a b : Bool) → T (a || b) → T a ⊎ T b
 T-or true b t = inl tt

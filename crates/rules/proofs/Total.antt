@@ -9,7 +9,8 @@ use mathlib.Core.List.{List, List·Memᴰ}
 use native.Mathlib.Omega.{arith}
 use lib.Dec.{T, T-not}
 use Rattle.rules.specs.Sum.{has}
-use Rattle.rules.specs.Rule.{Rule, Weighted, Within, Fits, body, chooses}
+use Rattle.rules.specs.Rule.{Rule, Weighted, Within, body, chooses}
+use Rattle.rules.specs.inner.Fits.{Fits}
 use Rattle.rules.specs.Stable.{Set, outside, value, Contains, Stable}
 use Rattle.rules.specs.Map.{Map, IsMap, inside, want, is, isnt, sure, total}
 use Rattle.rules.specs.Forcing.{Closed, Grounds, Founded}

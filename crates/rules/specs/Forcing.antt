@@ -10,12 +10,12 @@
 use Prim.Native.Nat.{ℕ, _+_, _≤_, _<_}
 use mathlib.Core.Path.{_≡_}
 use mathlib.Core.Bool.{Bool, true, false, not, _&&_}
-use mathlib.Core.List.{List, [], _∷_, _++_, map, List·Memᴰ}
+use mathlib.Core.List.{List, _++_, map, List·Memᴰ}
 use lib.Dec.{T, leb}
 use Rattle.rules.specs.Sum.{tally, has}
 use Rattle.rules.specs.Rule.{Rule, Weighted, Sheet, Within, body, chooses}
 use Rattle.rules.specs.Stable.{Set, value}
-use Rattle.rules.specs.Map.{Map, Literal, IsMap, Holding, isnt, sure, reach, _⊑_}
+use Rattle.rules.specs.Map.{Map, Literal, IsMap, Holding, isnt, signed, sure, reach, _⊑_}
 
 -- has the rule this head, and can its body still hold?
 abbrev pub supports : ℕ → Map → Rule → Bool
@@ -49,36 +49,23 @@ pub record Closed (P : List Rule) (n : ℕ) (M : Map) : Type 0 where
       → (s : Bool) (l : Weighted) → List·Memᴰ l (body r s) → M (l .atom) ≡ 0 → r .need ≤ sure r M + l .weight → ⊥
   pub fourth : (a : ℕ) → Within n a → (M a ≡ 2 → ⊥) → Founded P M a
 
--- "the smallest closed map holding .." what is asked
-pub record Least (P : List Rule) (n : ℕ) (Q : Map → Type 0) (M : Map) : Type 0 where
-  pub closed : Closed P n M
-  pub holding : Q M
-  pub below : (M′ : Map) → Closed P n M′ → Q M′ → M ⊑ M′
+-- "the smallest closed map holding .." what is asked. What closed means is a parameter: closed under the four rules here.
+pub record Least (Good Asked : Map → Type 0) (M : Map) : Type 0 where
+  pub closed : Good M
+  pub holding : Asked M
+  pub below : (X : Map) → Good X → Asked X → M ⊑ X
 
 -- "no consistent closed map holds them"
-abbrev pub Contradiction : List Rule → ℕ → (Map → Type 0) → Type 0
-Contradiction P n Q = (M : Map) → Closed P n M → Q M → ⊥
+abbrev pub Contradiction : (Map → Type 0) → (Map → Type 0) → Type 0
+Contradiction Good Asked = (X : Map) → Good X → Asked X → ⊥
 
--- the compute lists as pins
-abbrev pub inn : ℕ → Literal
-inn a = record { atom = a; sign = true }
-
-abbrev pub out : ℕ → Literal
-out a = record { atom = a; sign = false }
-
+-- the compute lists as literals
 abbrev pub computed : Sheet → List Literal
-computed sh = map inn (sh .computeIn) ++ map out (sh .computeOut)
+computed sh = map (signed true) (sh .computeIn) ++ map (signed false) (sh .computeOut)
 
 -- "the smallest consistent set that holds pins and compute lists and is closed under the four forcing rules"
 abbrev pub Pinned : Sheet → List Literal → Map → Type 0
 Pinned sh ps M = Holding (computed sh ++ ps) M
-
--- pins one after the other: each map is the smallest closed one that holds the map before it and the next pin
-pub data Pinning (P : List Rule) (n : ℕ) : Map → List Literal → Map → Type 0 where
-  none : {M : Map} → Pinning P n M [] M
-  next :
-      {M M₁ M′ : Map} {p : Literal} {ps : List Literal} → Least P n (λ X. (M ⊑ X) × Holding (p ∷ []) X) M₁
-      → Pinning P n M₁ ps M′ → Pinning P n M (p ∷ ps) M′
 
 -- two lists with the same elements, in any order and with any repeats
 pub record SameSet (ps ps′ : List Literal) : Type 0 where

@@ -4,7 +4,6 @@ pub mod Rule
 pub mod Stable
 pub mod Map
 pub mod Forcing
-pub mod Search
 pub mod Number
-pub mod Paper
-pub mod Cases
+pub mod inner
+pub mod shown

@@ -16,3 +16,7 @@ weightMost = 1000000
 
 unfoldable pub numberMost : ℕ
 numberMost = 268435455
+
+-- the refusals are numbered from 1 to this
+abbrev pub highestRefusal : ℕ
+highestRefusal = 14

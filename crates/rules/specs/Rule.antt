@@ -1,15 +1,24 @@
 -- "A rule is one of four kinds, each with its own head part." "Each rule has a need and each body literal a weight.
 -- Basic and choice: weight 1, need the body's length. Constraint: weight 1, need the bound. Weight rule: as written."
-use Prim.Native.Nat.{ℕ, _+_, _≤_}
+use Prim.Native.Nat.{ℕ, _+_, _-_, _≤_}
 use mathlib.Core.Path.{_≡_}
 use mathlib.Core.Bool.{Bool, true, false}
-use mathlib.Core.List.{List, [], _∷_, map, List·Memᴰ, List·Permᴰ}
-use lib.ListN.{length}
-use lib.Dec.{T}
-use Rattle.rules.specs.Sum.{has}
+use mathlib.Core.List.{List, [], _∷_, map, List·Permᴰ}
+use lib.ListN.{length, getD}
+use lib.Dec.{eqb, ltb}
+use Rattle.rules.specs.Sum.{pick}
+use Rattle.rules.specs.declared.Item.{Item}
+use Rattle.rules.specs.declared.Item.the-variants.{Is as item, Nothing as nothing}
 
 pub data Kind : Type 0 where
   basic constraint choice weight : Kind
+
+-- the number by which a sheet writes the kind
+abbrev pub kindNumber : Kind → ℕ
+kindNumber basic = 1
+kindNumber constraint = 2
+kindNumber choice = 3
+kindNumber weight = 5
 
 -- a choice rule may give its heads; every other rule must
 abbrev pub chooses : Kind → Bool
@@ -35,8 +44,11 @@ abbrev pub body : Rule → Bool → List Weighted
 body r true = r .pos
 body r false = r .neg
 
+abbrev pub weighted : ℕ → ℕ → Weighted
+weighted a w = record { atom = a; weight = w }
+
 abbrev pub one : ℕ → Weighted
-one a = record { atom = a; weight = 1 }
+one a = weighted a 1
 
 abbrev pub ones : List ℕ → List Weighted
 ones xs = map one xs
@@ -67,16 +79,37 @@ pub record Within (n a : ℕ) : Type 0 where
   pub low : 1 ≤ a
   pub high : a ≤ n
 
--- every atom of every rule is one of the n
-pub record Fits (n : ℕ) (P : List Rule) : Type 0 where
-  pub head : (r : Rule) → List·Memᴰ r P → (a : ℕ) → T (has a (r .heads)) → Within n a
-  pub literal : (r : Rule) → List·Memᴰ r P → (s : Bool) (l : Weighted) → List·Memᴰ l (body r s) → Within n (l .atom)
+-- the rule of a number, 1 for the first
+abbrev pub noRule : Rule
+noRule = basicRule 0 [] []
 
--- every atom that the sheet names is one of its n
-pub record Numbered (sh : Sheet) : Type 0 where
-  pub rules : Fits (sh .atoms) (sh .rules)
-  pub computeIn : (a : ℕ) → T (has a (sh .computeIn)) → Within (sh .atoms) a
-  pub computeOut : (a : ℕ) → T (has a (sh .computeOut)) → Within (sh .atoms) a
+abbrev pub nthRule : Sheet → ℕ → Rule
+nthRule sh k = getD (sh .rules) (k - 1) noRule
+
+abbrev pub atomsOf : List Weighted → List ℕ
+atomsOf ls = map (λ l. l .atom) ls
+
+abbrev pub weightsOf : List Weighted → List ℕ
+weightsOf ls = map (λ l. l .weight) ls
+
+-- the i-th of a list, from 0, or nothing where the list does not go so far
+unfoldable pub itemOf : List ℕ → ℕ → Item
+itemOf xs i = pick (ltb i (length xs)) (item (getD xs i 0)) nothing
+
+-- "Read a rule by its number: its kind, heads, need, body and weights." The parts by number: 0 kind, 1 need, 2 head count, 3 head,
+-- 4 positive count, 5 positive atom, 6 its weight, 7 negative count, 8 negative atom, 9 its weight
+unfoldable pub partOf : Rule → ℕ → ℕ → Item
+partOf r p i =
+    pick (eqb p 0) (item (kindNumber (r .kind)))
+    (pick (eqb p 1) (item (r .need))
+    (pick (eqb p 2) (item (length (r .heads)))
+    (pick (eqb p 3) (itemOf (r .heads) i)
+    (pick (eqb p 4) (item (length (r .pos)))
+    (pick (eqb p 5) (itemOf (atomsOf (r .pos)) i)
+    (pick (eqb p 6) (itemOf (weightsOf (r .pos)) i)
+    (pick (eqb p 7) (item (length (r .neg)))
+    (pick (eqb p 8) (itemOf (atomsOf (r .neg)) i)
+    (pick (eqb p 9) (itemOf (weightsOf (r .neg)) i) nothing)))))))))
 
 -- two sheets that differ only in the order of their rules
 pub record Shuffled (sh sh′ : Sheet) : Type 0 where

@@ -4,6 +4,11 @@ use mathlib.Core.Bool.{Bool, true, false, _||_}
 use mathlib.Core.List.{List, [], _∷_}
 use lib.Dec.{eqb}
 
+-- the one where the test passes, and the other where it fails
+unfoldable pub pick : {A : Type 0} → Bool → A → A → A
+pick true yea nay = yea
+pick false yea nay = nay
+
 -- a weight where the test passes, and 0 where it fails
 abbrev pub counted : Bool → ℕ → ℕ
 counted true w = w

@@ -1,10 +1,18 @@
 // The numbers of a sheet. What the rules mean is in specs/, and its laws are in proofs/.
 ghost use mathlib.Core.Path.{_≡_};
-ghost use Rattle.rules.specs.Number.{atomOf, ruleOf};
+ghost use Rattle.rules.specs.Number.{checkedAtom, checkedRule};
 
-// An atom of a sheet, 1 to the sheet's atom count.
+pub mod kind;
+
+// One of a list, or nothing where the list does not go so far.
+pub enum Item {
+    Is(usize),
+    Nothing,
+}
+
+// An atom of a sheet, 1 to the sheet's atom count. Only `checked` makes one.
 pub struct Atom {
-    pub number: usize,
+    number: usize,
 }
 
 pub enum AtomOr {
@@ -19,7 +27,7 @@ impl Atom {
 
     // The atom of this number, where the sheet has n atoms and this is one of them.
     pub fn checked(number: usize, n: usize) -> AtomOr
-        ensures { λ r. ⌜ r ≡ atomOf n number ⌝ }
+        ensures { λ r. ⌜ r ≡ checkedAtom n number ⌝ }
     {
         if number < Atom::FIRST {
             return AtomOr::Not;
@@ -29,11 +37,17 @@ impl Atom {
         }
         AtomOr::Is(Atom { number })
     }
+
+    pub fn number(self) -> usize
+        ensures { λ r. ⌜ r ≡ self .number ⌝ }
+    {
+        self.number
+    }
 }
 
-// A rule of a sheet by its place, 1 to the sheet's rule count.
+// A rule of a sheet by its place, 1 to the sheet's rule count. Only `checked` makes one.
 pub struct RuleNo {
-    pub number: usize,
+    number: usize,
 }
 
 pub enum RuleOr {
@@ -48,7 +62,7 @@ impl RuleNo {
 
     // The rule of this number, where the sheet has count rules and this is one of them.
     pub fn checked(number: usize, count: usize) -> RuleOr
-        ensures { λ r. ⌜ r ≡ ruleOf count number ⌝ }
+        ensures { λ r. ⌜ r ≡ checkedRule count number ⌝ }
     {
         if number < RuleNo::FIRST {
             return RuleOr::Not;
@@ -57,5 +71,11 @@ impl RuleNo {
             return RuleOr::Not;
         }
         RuleOr::Is(RuleNo { number })
+    }
+
+    pub fn number(self) -> usize
+        ensures { λ r. ⌜ r ≡ self .number ⌝ }
+    {
+        self.number
     }
 }

@@ -1,27 +1,26 @@
 -- A guess written on a closed map and closed again: the maps above the written map are those above the old one that have the
 -- guessed literal, and a closed map above it has fewer undecided atoms, since the guessed one was undecided.
 use Prim.Native.Nat.{ℕ, zero, suc, _+_, _-_, _≤_, _<_}
-use mathlib.Core.Path.{_≡_, refl, sym, _∙_, ap, subst}
+use mathlib.Core.Path.{_≡_, sym, _∙_, ap, subst}
 use mathlib.Core.Logic.{_⊎_, inl, inr}
 use mathlib.Core.Bool.{Bool, true, false}
-use mathlib.Core.List.{List, [], _∷_, List·Memᴰ·head}
+use mathlib.Core.List.{List, [], _∷_}
 use native.Mathlib.Omega.{arith}
 use lib.ListN.{length, getD, take, set}
 use lib.Dec.{eqb}
 use Rattle.rules.specs.Sum.{tally}
-use Rattle.rules.specs.Map.{Map, side, want, _⊑_}
-use Rattle.rules.specs.Search.{Guess}
+use Rattle.rules.specs.Map.{Map, Over, side, signed, want, _⊑_, undecided}
 use Rattle.rules.proofs.Tests.{eq-T, T-eq}
 use Rattle.rules.proofs.Sum.{counted-mono}
-use Rattle.rules.proofs.Maps.{sides, want-decided, ⊑-trans}
-use Rattle.rules.proofs.Bytes.{side-index, written-same, written-above, written-below}
-use Rattle.rules.proofs.Least.{holding-nil, holding-cons, least-same, contradiction-same}
-use Rattle.weigh.specs.Step.{Proper, undecided}
-use Rattle.forcing.specs.Close.{ClosesMap}
+use Rattle.rules.proofs.Maps.{sides, want-decided}
+use Rattle.rules.proofs.Bytes.{side-index, over-written, written-over}
+use Rattle.rules.proofs.Least.{least-same, contradiction-same}
+use Rattle.rules.specs.inner.Bytes.{MapBytes}
+use Rattle.forcing.specs.inner.Rounds.{ClosesMap}
 use Rattle.forcing.specs.declared.Closing.{Closing}
 use Rattle.forcing.specs.declared.Closing.the-variants.{NoneHolds, ClosedWith}
 use Rattle.weigh.proofs.Bytes.{proper-put, fewer-put, proper-map}
-use Rattle.search.specs.Search.{Open, Tries}
+use Rattle.search.specs.inner.Search.{Open, Tries}
 use Rattle.search.proofs.Branches.{within, lowest-low}
 
 zeros-mono :
@@ -45,7 +44,7 @@ zeros-mono (suc n) (x ∷ xs) (y ∷ ys) hp hq f =
     )
 
 -- a map above another has no more undecided atoms
-fewer-above : (n : ℕ) (m m′ : List ℕ) → Proper n m → Proper n m′ → side n m ⊑ side n m′ → undecided n m′ ≤ undecided n m
+fewer-above : (n : ℕ) (m m′ : List ℕ) → MapBytes n m → MapBytes n m′ → side n m ⊑ side n m′ → undecided n m′ ≤ undecided n m
 unfolding undecided
 fewer-above n m m′ p p′ f = zeros-mono n m m′ (p .room) (p′ .room) back
   where
@@ -75,37 +74,19 @@ module _ {c : List ℕ} {n count : ℕ} {m : List ℕ} {i : ℕ} (op : Open c n 
       by true = omega arith
       by false = omega arith
 
-  pub guess-proper : Proper n (set m i v)
+  pub guess-proper : MapBytes n (set m i v)
   guess-proper =
-      subst (Proper n) same (proper-put n m (i + 1) (want s) (within op) small (op .stands .proper))
+      subst (MapBytes n) same (proper-put n m (i + 1) (want s) (within op) small (op .stands .proper))
 
-  asked : (X : Map) → side n (set m i v) ⊑ X → Guess (side n m) (i + 1) s X
+  asked : (X : Map) → side n (set m i v) ⊑ X → Over (side n m) (signed s (i + 1) ∷ []) X
   asked X f =
-      let g : side n written ⊑ X = subst (λ (l : List ℕ). side n l ⊑ X) (sym same) f in (
-        ⊑-trans (written-above n m (i + 1) (within op) (op .stands .proper .room) (want s) (lowest-low op .undecided)) g,
-        holding-cons
-            X
-            (record { atom = i + 1; sign = s })
-            []
-            (g .keeps s (i + 1) (written-same n m (i + 1) (within op) (op .stands .proper .room) (want s)))
-            (holding-nil X),
-      )
+      over-written n m (i + 1) (within op) (op .stands .proper .room) s (lowest-low op .undecided) X
+      (subst (λ (l : List ℕ). side n l ⊑ X) (sym same) f)
 
-  answered : (X : Map) → Guess (side n m) (i + 1) s X → side n (set m i v) ⊑ X
+  answered : (X : Map) → Over (side n m) (signed s (i + 1) ∷ []) X → side n (set m i v) ⊑ X
   answered X q =
-      subst
-      (λ (l : List ℕ). side n l ⊑ X)
-      same
-      (written-below
-      n
-      m
-      (i + 1)
-      (within op)
-      (op .stands .proper .room)
-      (want s)
-      X
-      (q .0)
-      (q .1 (record { atom = i + 1; sign = s }) (List·Memᴰ·head refl)))
+      subst (λ (l : List ℕ). side n l ⊑ X) same
+      (written-over n m (i + 1) (within op) (op .stands .proper .room) s (lowest-low op .undecided) X q)
 
   fewer : undecided n (set m i v) < undecided n m
   fewer =
@@ -128,7 +109,7 @@ module _ {c : List ℕ} {n count : ℕ} {m : List ℕ} {i : ℕ} (op : Open c n 
         tried =
             contradiction-same
             (λ X. side n (set m i v) ⊑ X)
-            (Guess (side n m) (i + 1) s)
+            (Over (side n m) (signed s (i + 1) ∷ []))
             answered
             (subst (λ (x : Closing). ClosesMap c n count (set m i v) m′ x) e k .answers);
       }
@@ -142,7 +123,7 @@ module _ {c : List ℕ} {n count : ℕ} {m : List ℕ} {i : ℕ} (op : Open c n 
         tried =
             record {
               least =
-                  least-same (λ X. side n (set m i v) ⊑ X) (Guess (side n m) (i + 1) s) asked answered (a .answers .0);
+                  least-same (λ X. side n (set m i v) ⊑ X) (Over (side n m) (signed s (i + 1) ∷ [])) asked answered (a .answers .0);
               proper = t .kept .proper;
               fewer =
                   omega

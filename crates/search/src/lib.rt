@@ -1,11 +1,11 @@
 // The search for the first model above a closed map.
 use forcing::Closing;
-use forcing::close::close;
-use forcing::close::lowest;
+use forcing::close;
+use forcing::lowest;
 use rules::Atom;
-use weigh::press::side_for;
-ghost use Prim.Native.Nat.{_+_, _<_};
-ghost use Rattle.search.specs.Search.{Stands, Open, Tries, Follows, Answers};
+use weigh::side_for;
+ghost use Prim.Native.Nat.{_+_};
+ghost use Rattle.search.specs.inner.Search.{Standing, Open, Tries, Follows, Answers};
 
 // A model's map, or that there is none.
 pub struct Found {
@@ -65,7 +65,7 @@ fn trial(code: &[u32], n: u32, count: u32, map: [u8; Atom::LAST], i: u32) -> Fou
 
 // The first model above a closed map: the map itself where it decides every atom, and else by trial of the lowest that it leaves.
 pub fn choose(code: &[u32], n: u32, count: u32, map: [u8; Atom::LAST]) -> Found
-    requires { ⌜ Stands (now code) n count map ⌝ }
+    requires { ⌜ Standing (now code) n count map ⌝ }
     ensures { λ r. ⌜ Answers (now (code .entry)) n count map (r .model) (r .map) ⌝ }
 {
     let i = lowest(&map, n);

@@ -6,26 +6,26 @@ use mathlib.Core.List.{List}
 use Rattle.desk.specs.Promise.{Opens, Pins}
 use Rattle.desk.specs.declared.Opened.{Opened}
 use Rattle.desk.proofs.Tight.{opens-tight, pins-tight}
-use Rattle.session.specs.Session.{fresh}
+use Rattle.rules.specs.Map.{blank}
 use Rattle.session.specs.declared.Session.{Session}
 
 -- sessions with the same map are the same
-same : {a b : Session} → a .map ≡ b .map → a ≡ b
+pub same : {a b : Session} → a .map ≡ b .map → a ≡ b
 same e = ap (λ (m : List ℕ). record { map = m }) e
 
-pub start-tight : (a b : Session) → a .map ≡ fresh → b .map ≡ fresh → a ≡ b
+pub start-tight : (a b : Session) → a .map ≡ blank → b .map ≡ blank → a ≡ b
 start-tight a b e f = same (e ∙ sym f)
 
-pub open-tight :
+pub session-open-tight :
     (s : List ℕ) (session a b : Session) (r r′ : Opened) → Opens s (session .map) (a .map) r → Opens s (session .map) (b .map) r′
     → (r ≡ r′) × (a ≡ b)
-open-tight s session a b r r′ p q =
+session-open-tight s session a b r r′ p q =
     let e = opens-tight s (session .map) (a .map) (b .map) r r′ p q in
     (e .0, same (e .1))
 
-pub pin-tight :
+pub session-pin-tight :
     (s : List ℕ) (session : Session) (atom side : ℕ) (a b : Session) (r r′ : Opened)
     → Pins s (session .map) atom side (a .map) r → Pins s (session .map) atom side (b .map) r′ → (r ≡ r′) × (a ≡ b)
-pin-tight s session atom side a b r r′ p q =
+session-pin-tight s session atom side a b r r′ p q =
     let e = pins-tight s (session .map) atom side (a .map) (b .map) r r′ p q in
     (e .0, same (e .1))

@@ -1,9 +1,14 @@
--- "A desk session: one record with a map of 512 bytes, all 0 at first, changed in place through `&mut`."
+-- "A desk session: one record with a map of 512 bytes, all 0 at first, changed in place through `&mut`." A run of a session: it is
+-- started, an accepted sheet is opened on it, and then pinned; each call with its promise.
+use mathlib.Core.Path.{_≡_}
 use Prim.Native.Nat.{ℕ}
 use mathlib.Core.List.{List}
-use lib.ListN.{replicate}
-use Rattle.rules.specs.Limits.{atomsMost}
+use Rattle.rules.specs.Rule.{Sheet}
+use Rattle.rules.specs.Map.{blank}
+use Rattle.desk.specs.Run.{Pin, Run}
+use Rattle.desk.specs.declared.Opened.{Opened}
+use Rattle.session.specs.declared.Session.{Session}
 
--- the map of a session that has just started: a byte for every atom that a sheet can have
-abbrev pub fresh : List ℕ
-fresh = replicate atomsMost 0
+pub record SessionRun (s : List ℕ) (sh : Sheet) (ps : List Pin) (session : Session) (r : Opened) : Type 0 where
+  pub run : Run s sh ps (session .map) r
+  pub started : run .lent ≡ blank

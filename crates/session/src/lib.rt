@@ -2,10 +2,10 @@
 // The functions on a lent session are thin: each hands the record over by value, and takes back what it became.
 ghost use mathlib.Core.Path.{_≡_};
 ghost use Rattle.desk.specs.Promise.{Opens, Pins};
-ghost use Rattle.session.specs.Session.{fresh};
+ghost use Rattle.rules.specs.Map.{blank};
 use desk::Opened;
-use desk::open::open as open_map;
-use desk::pin::pin as pin_map;
+use desk::open as open_map;
+use desk::pin as pin_map;
 use rules::Atom;
 
 pub struct Session {
@@ -20,7 +20,7 @@ pub struct Turn {
 
 // "all 0 at first"
 pub fn start() -> Session
-    ensures { λ r. ⌜ r .map ≡ fresh ⌝ }
+    ensures { λ r. ⌜ r .map ≡ blank ⌝ }
 {
     Session {
         map: [0; Atom::LAST],

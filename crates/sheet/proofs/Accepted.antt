@@ -1,30 +1,31 @@
 -- An accepted sheet has one meaning and one form. All of it follows from what reading it has read, part by part.
-use Prim.Native.Nat.{ℕ, _+_, _*_, _≤_}
+use Prim.Native.Nat.{ℕ, _≤_}
 use mathlib.Core.Path.{_≡_, refl, sym, ap, subst, _∙_}
 use mathlib.Core.List.{List}
 use native.Mathlib.Omega.{arith}
 use lib.ListN.{length}
 use Rattle.rules.specs.Limits.{bytesMost}
-use Rattle.rules.specs.Rule.{Sheet, Fits}
-use Rattle.numbers.specs.Encode.{IsBytes}
-use Rattle.sheet.specs.Sheet.{checkOf, checkThen}
+use Rattle.rules.specs.Rule.{Sheet}
+use Rattle.rules.specs.inner.Fits.{Numbered}
+use Rattle.numbers.specs.shown.Encode.{IsBytes}
+use Rattle.sheet.specs.Sheet.{sheetRead, sheetThen}
 use Rattle.sheet.specs.Meaning.{accepted, refused, sheetMeant, sheetOf}
-use Rattle.sheet.specs.Encode.{encode, WellFormed, rulesSize}
-use Rattle.sheet.specs.declared.sheet.Outline.{Outline}
-use Rattle.sheet.specs.declared.sheet.Checked.{Checked}
-use Rattle.sheet.specs.declared.sheet.Checked.the-variants.{Accepted, Refused as RefusedSheet}
+use Rattle.sheet.specs.shown.Encode.{encode, WellFormed}
+use Rattle.sheet.specs.declared.Outline.{Outline}
+use Rattle.sheet.specs.declared.SheetRead.{SheetRead}
+use Rattle.sheet.specs.declared.SheetRead.the-variants.{Accepted, Refused as RefusedSheet}
 use Rattle.sheet.proofs.sheet.Ran.{SheetRan, sheet-ran}
 use Rattle.sheet.proofs.sheet.Written.{sheet-written}
-use Rattle.sheet.proofs.Fits.{propers-fit}
+use Rattle.sheet.proofs.Fits.{formed-numbered}
 
 -- a meaning came of an accepted check
-pub outlined : (s : List ℕ) (sh : Sheet) → sheetOf s ≡ accepted sh → (o : Outline) × (checkOf s ≡ Accepted o) × (sheetMeant s o ≡ sh)
-unfolding sheetOf checkThen
-outlined s sh e = by (checkOf s) refl e
+pub outlined : (s : List ℕ) (sh : Sheet) → sheetOf s ≡ accepted sh → (o : Outline) × (sheetRead s ≡ Accepted o) × (sheetMeant s o ≡ sh)
+unfolding sheetOf sheetThen
+outlined s sh e = by (sheetRead s) refl e
   where
     by :
-        (c : Checked) → checkOf s ≡ c → checkThen refused c (λ o. accepted (sheetMeant s o)) ≡ accepted sh
-        → (o : Outline) × (checkOf s ≡ Accepted o) × (sheetMeant s o ≡ sh)
+        (c : SheetRead) → sheetRead s ≡ c → sheetThen refused c (λ o. accepted (sheetMeant s o)) ≡ accepted sh
+        → (o : Outline) × (sheetRead s ≡ Accepted o) × (sheetMeant s o ≡ sh)
     by (Accepted o) h z = (o, h, cc)
     by (RefusedSheet why) h z = let w : _≡_ {A = ℕ} 0 1 = cc in absurd (omega arith)
 
@@ -36,12 +37,9 @@ module _ (s : List ℕ) (sh : Sheet) (e : sheetOf s ≡ accepted sh) where
   pub well-formed : WellFormed sh
   well-formed = subst (λ (t : Sheet). WellFormed t) (ran .2) (ran .1 .wellFormed)
 
-  pub fits : Fits (sh .atoms) (sh .rules)
-  fits = propers-fit (sh .atoms) (sh .rules) (well-formed .rules)
-
-  -- its heads and literals, three for each rule and five more are no more than its bytes
-  pub size : rulesSize (sh .rules) + 3 * length (sh .rules) + 5 ≤ length s
-  size = subst (λ (t : Sheet). rulesSize (t .rules) + 3 * length (t .rules) + 5 ≤ length s) (ran .2) (ran .1 .far)
+  -- every atom that it names is one of its n
+  pub numbered : Numbered sh
+  numbered = formed-numbered sh well-formed
 
   pub short : length s ≤ bytesMost
   short = ran .1 .short

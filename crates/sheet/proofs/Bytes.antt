@@ -7,10 +7,10 @@ use native.Mathlib.Omega.{arith}
 use lib.ListN.{length, getD}
 use lib.Dec.{ltb}
 use borrow.Author.Tests.{ltb-true}
-use Rattle.rules.specs.Rule.{Rule, Sheet, Kind, basic, constraint, choice, weight}
-use Rattle.numbers.specs.Answer.{pick}
-use Rattle.numbers.specs.Encode.{groupsOf, numberBytes, numbersBytes, listBytes, IsBytes}
-use Rattle.sheet.specs.Encode.{atomsOf, weightsIn, bodyBytes, kindBytes, ruleBytes, encode}
+use Rattle.rules.specs.Rule.{Rule, Sheet, Kind, basic, constraint, choice, weight, atomsOf, weightsOf}
+use Rattle.rules.specs.Sum.{pick}
+use Rattle.numbers.specs.shown.Encode.{groupsOf, numberBytes, numbersBytes, listBytes, IsBytes}
+use Rattle.sheet.specs.shown.Encode.{bodyBytes, kindBytes, ruleBytes, encode}
 
 no-bytes : IsBytes []
 no-bytes = record { byte = λ i. omega arith }
@@ -69,7 +69,7 @@ kind-is weight r =
     and-then (number-is 5)
     (and-then (numbers-are (r .heads))
     (and-then (number-is (r .need))
-    (and-then (body-is r) (and-then (numbers-are (weightsIn (r .pos))) (numbers-are (weightsIn (r .neg)))))))
+    (and-then (body-is r) (and-then (numbers-are (weightsOf (r .pos))) (numbers-are (weightsOf (r .neg)))))))
 
 rule-is : (r : Rule) → IsBytes (ruleBytes r)
 unfolding ruleBytes

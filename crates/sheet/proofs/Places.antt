@@ -1,4 +1,4 @@
--- Every refusal of a sheet has a number up to 9 and a place within the limit of bytes: each reader starts where the one before it ended,
+-- Every refusal of a sheet has one of the refusals' numbers and a place within the limit of bytes: each reader starts where the one before it ended,
 -- so within the bytes, and refuses within them; and a sheet that is too long is refused at the limit.
 use Prim.Native.Nat.{ℕ, _+_, _≤_}
 use mathlib.Core.Path.{_≡_, refl, _∙_, ap, subst}
@@ -9,33 +9,33 @@ use lib.ListN.{length}
 use lib.Dec.{ltb, eqb}
 use borrow.Author.Tests.{ltb-false}
 use Rattle.rules.specs.Limits.{atomsMost, rulesMost, bytesMost, weightMost}
-use Rattle.rules.specs.Number.{atomOf}
+use Rattle.rules.specs.Number.{checkedAtom}
 use Rattle.rules.specs.declared.Atom.{Atom}
-use Rattle.numbers.specs.Answer.{part}
+use Rattle.numbers.specs.Answer.{span}
 use Rattle.numbers.specs.declared.Refusal.{Refusal}
-use Rattle.numbers.specs.declared.Part.{Part}
+use Rattle.numbers.specs.declared.Span.{Span}
 use Rattle.numbers.specs.declared.Read.the-variants.{Got, Refused}
 use Rattle.numbers.proofs.Places.{Placed, placed, Tame, gets, refuses, pick-so, read-so, atom-so, number-tame, within-tame, run-tame, list-tame}
 use Rattle.sheet.specs.Body.{weightAt, weightsAt, weightsDue, needFor, weighedAt, bodyAt}
 use Rattle.sheet.specs.Rule.{headThen, basicAt, bounded, boundedAt, choiceAt, ruleAt, ruleThen, ruleStep, rulesAt}
-use Rattle.sheet.specs.Sheet.{editionAt, tailAt, restAt, wholeAt, checkOf, checkThen}
+use Rattle.sheet.specs.Sheet.{editionAt, tailAt, restAt, wholeAt, sheetRead, sheetThen}
 use Rattle.sheet.specs.Meaning.{accepted, refused, sheetMeant, sheetOf}
-use Rattle.sheet.specs.declared.rule.Kind.{Kind}
-use Rattle.sheet.specs.declared.rule.Kind.the-variants.{Basic, Choice}
-use Rattle.sheet.specs.declared.rule.Rule.{Rule}
-use Rattle.sheet.specs.declared.rule.RuleRead.{RuleRead}
-use Rattle.sheet.specs.declared.rule.RuleRead.the-variants.{Got as GotRule, Refused as RefusedRule}
-use Rattle.sheet.specs.declared.sheet.Outline.{Outline}
-use Rattle.sheet.specs.declared.sheet.Checked.{Checked}
-use Rattle.sheet.specs.declared.sheet.Checked.the-variants.{Accepted, Refused as RefusedSheet}
+use Rattle.sheet.specs.declared.SheetKind.{SheetKind}
+use Rattle.sheet.specs.declared.SheetKind.the-variants.{Basic, Choice}
+use Rattle.sheet.specs.declared.SheetRule.{SheetRule}
+use Rattle.sheet.specs.declared.RuleRead.{RuleRead}
+use Rattle.sheet.specs.declared.RuleRead.the-variants.{Got as GotRule, Refused as RefusedRule}
+use Rattle.sheet.specs.declared.Outline.{Outline}
+use Rattle.sheet.specs.declared.SheetRead.{SheetRead}
+use Rattle.sheet.specs.declared.SheetRead.the-variants.{Accepted, Refused as RefusedSheet}
 
 -- a rule that ends within the bytes, or a refusal within them
 data TameRule (s : List ℕ) : RuleRead → Type 0 where
-  getsRule : (r : Rule) → r .next ≤ length s → TameRule s (GotRule r)
+  getsRule : (r : SheetRule) → r .next ≤ length s → TameRule s (GotRule r)
   refusesRule : (why : Refusal) → Placed (length s) why → TameRule s (RefusedRule why)
 
 -- any refusal is at a place up to the last
-data TameSheet (last : ℕ) : Checked → Type 0 where
+data TameSheet (last : ℕ) : SheetRead → Type 0 where
   accepts : (o : Outline) → TameSheet last (Accepted o)
   refusesSheet : (why : Refusal) → Placed last why → TameSheet last (RefusedSheet why)
 
@@ -45,7 +45,7 @@ module _ (s : List ℕ) where
   weights-tame count at h = run-tame s (weightAt s) (λ before at l. within-tame s at l 0 weightMost) count 0 _ h
 
   weighed-tame :
-      (kind : Kind) (need : ℕ) (positive negated : Part) → negated .next ≤ length s
+      (kind : SheetKind) (need : ℕ) (positive negated : Span) → negated .next ≤ length s
       → TameRule s (weighedAt s kind need positive negated)
   unfolding weighedAt
   weighed-tame kind need positive negated h =
@@ -53,7 +53,7 @@ module _ (s : List ℕ) where
       (λ above k. read-so (TameRule s) RefusedRule _ (weights-tame (weightsDue kind (negated .value)) (above .next) k) refusesRule
       (λ below l. getsRule _ l))
 
-  body-tame : (n : ℕ) (kind : Kind) (at : ℕ) → at ≤ length s → TameRule s (bodyAt s n kind at)
+  body-tame : (n : ℕ) (kind : SheetKind) (at : ℕ) → at ≤ length s → TameRule s (bodyAt s n kind at)
   unfolding bodyAt
   body-tame n kind at h =
       read-so (TameRule s) RefusedRule _ (list-tame s 0 n at h) refusesRule
@@ -67,7 +67,7 @@ module _ (s : List ℕ) where
     unfolding headThen
     head-tame next tame =
         read-so (TameRule s) RefusedRule _ (number-tame s at h) refusesRule
-        (λ number k. atom-so (TameRule s) _ (atomOf n (number .value)) _ (refusesRule _ (placed 6 at (omega arith) h))
+        (λ number k. atom-so (TameRule s) _ (checkedAtom n (number .value)) _ (refusesRule _ (placed 6 at (omega arith) h))
         (λ head. tame head (number .next) k))
 
     basic-tame : TameRule s (basicAt s n at)
@@ -101,7 +101,7 @@ module _ (s : List ℕ) where
   unfolding ruleStep ruleThen
   step-tame n before at h = by (ruleAt s n at) (rule-tame n at h)
     where
-      by : (a : RuleRead) → TameRule s a → Tame s (ruleThen Refused a (λ rule. Got (part before at (rule .next))))
+      by : (a : RuleRead) → TameRule s a → Tame s (ruleThen Refused a (λ rule. Got (span before at (rule .next))))
       by _ (getsRule r l) = gets _ l
       by _ (refusesRule why w) = refuses why w
 
@@ -116,7 +116,7 @@ module _ (s : List ℕ) where
       (λ edition k. pick-so (Tame s) (eqb (edition .value) 1) _ _ (λ b. gets edition k)
       (λ b. refuses _ (placed 3 0 (omega arith) (omega arith))))
 
-  tail-tame : (n : ℕ) (rules : Part) → rules .next ≤ length s → TameSheet (length s) (tailAt s n rules)
+  tail-tame : (n : ℕ) (rules : Span) → rules .next ≤ length s → TameSheet (length s) (tailAt s n rules)
   unfolding tailAt
   tail-tame n rules h =
       read-so (TameSheet (length s)) RefusedSheet _ (list-tame s 0 n (rules .next) h) refusesSheet
@@ -140,12 +140,12 @@ module _ (s : List ℕ) where
       (λ atoms l. rest-tame (atoms .value) (atoms .next) l))
 
   -- a limit above the length is one too
-  looser : (c : Checked) → length s ≤ bytesMost → TameSheet (length s) c → TameSheet bytesMost c
+  looser : (c : SheetRead) → length s ≤ bytesMost → TameSheet (length s) c → TameSheet bytesMost c
   looser _ h (accepts o) = accepts o
   looser _ h (refusesSheet why w) = refusesSheet why (record { number = w .number; place = omega (arith, w .place) })
 
-  check-tame : TameSheet bytesMost (checkOf s)
-  unfolding checkOf
+  check-tame : TameSheet bytesMost (sheetRead s)
+  unfolding sheetRead
   check-tame =
       pick-so (TameSheet bytesMost) (ltb bytesMost (length s)) _ _
       (λ b. refusesSheet _ (placed 9 bytesMost (omega arith) (omega arith)))
@@ -154,16 +154,16 @@ module _ (s : List ℕ) where
 refusal-placed : {last : ℕ} (why : Refusal) → TameSheet last (RefusedSheet why) → Placed last why
 refusal-placed _ (refusesSheet why w) = w
 
--- a sheet is refused by a number up to 9, at a place up to the limit of bytes
-pub refused-small : (s : List ℕ) (why : Refusal) → checkOf s ≡ RefusedSheet why → Placed bytesMost why
-refused-small s why e = refusal-placed why (subst (λ (c : Checked). TameSheet bytesMost c) e (check-tame s))
+-- a sheet is refused by one of the refusals' numbers, at a place up to the limit of bytes
+pub refused-small : (s : List ℕ) (why : Refusal) → sheetRead s ≡ RefusedSheet why → Placed bytesMost why
+refused-small s why e = refusal-placed why (subst (λ (c : SheetRead). TameSheet bytesMost c) e (check-tame s))
 
 -- and so is a meaning
 pub meaning-small : (s : List ℕ) (why : Refusal) → sheetOf s ≡ refused why → Placed bytesMost why
-unfolding sheetOf checkThen
-meaning-small s why e = by (checkOf s) refl e
+unfolding sheetOf sheetThen
+meaning-small s why e = by (sheetRead s) refl e
   where
-    by : (c : Checked) → checkOf s ≡ c → checkThen refused c (λ o. accepted (sheetMeant s o)) ≡ refused why → Placed bytesMost why
+    by : (c : SheetRead) → sheetRead s ≡ c → sheetThen refused c (λ o. accepted (sheetMeant s o)) ≡ refused why → Placed bytesMost why
     by (Accepted o) h z = let w : _≡_ {A = ℕ} 0 1 = cc in absurd (omega arith)
     by (RefusedSheet because) h z =
         let same : because ≡ why = cc in

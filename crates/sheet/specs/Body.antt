@@ -3,39 +3,39 @@
 use Prim.Native.Nat.{ℕ, _+_}
 use mathlib.Core.List.{List}
 use Rattle.rules.specs.Limits.{weightMost}
-use Rattle.numbers.specs.Answer.{part, readThen}
+use Rattle.numbers.specs.Answer.{span, readThen}
 use Rattle.numbers.specs.Number.{withinAt}
-use Rattle.numbers.specs.Lists.{run, listAt}
-use Rattle.numbers.specs.declared.Part.{Part}
+use Rattle.numbers.specs.Lists.{inTurn, listAt}
+use Rattle.numbers.specs.declared.Span.{Span}
 use Rattle.numbers.specs.declared.Read.{Read}
-use Rattle.sheet.specs.declared.rule.Kind.{Kind}
-use Rattle.sheet.specs.declared.rule.Kind.the-variants.{Basic, Constraint, Choice, Weight}
-use Rattle.sheet.specs.declared.rule.RuleRead.{RuleRead}
-use Rattle.sheet.specs.declared.rule.RuleRead.the-variants.{Got as GotRule, Refused as RefusedRule}
+use Rattle.sheet.specs.declared.SheetKind.{SheetKind}
+use Rattle.sheet.specs.declared.SheetKind.the-variants.{Basic, Constraint, Choice, Weight}
+use Rattle.sheet.specs.declared.RuleRead.{RuleRead}
+use Rattle.sheet.specs.declared.RuleRead.the-variants.{Got as GotRule, Refused as RefusedRule}
 
 -- a weight, whatever the weight before it
 unfoldable pub weightAt : List ℕ → ℕ → ℕ → Read
 weightAt s before at = withinAt s 0 weightMost at
 
 -- so many weights are written for so many literals
-abbrev pub weightsDue : Kind → ℕ → ℕ
+abbrev pub weightsDue : SheetKind → ℕ → ℕ
 weightsDue (Basic head) count = 0
 weightsDue (Constraint head bound) count = 0
 weightsDue (Choice heads) count = 0
 weightsDue (Weight head bound) count = count
 
 -- "Basic and choice: weight 1, need the body's length. Constraint: weight 1, need the bound. Weight rule: as written."
-abbrev pub needFor : Kind → ℕ → ℕ
+abbrev pub needFor : SheetKind → ℕ → ℕ
 needFor (Basic head) length = length
 needFor (Constraint head bound) length = bound
 needFor (Choice heads) length = length
 needFor (Weight head bound) length = bound
 
 unfoldable pub weightsAt : List ℕ → ℕ → ℕ → Read
-weightsAt s count at = run (weightAt s) count 0 (part count at at)
+weightsAt s count at = inTurn (weightAt s) count 0 (span count at at)
 
 -- the rule whose lists were read, with its weights
-unfoldable pub weighedAt : List ℕ → Kind → ℕ → Part → Part → RuleRead
+unfoldable pub weighedAt : List ℕ → SheetKind → ℕ → Span → Span → RuleRead
 weighedAt s kind need positive negated =
     readThen RefusedRule (weightsAt s (weightsDue kind (positive .value)) (negated .next))
     (λ above. readThen RefusedRule (weightsAt s (weightsDue kind (negated .value)) (above .next))
@@ -48,7 +48,7 @@ weighedAt s kind need positive negated =
     })))
 
 -- the rule of this kind whose body is at a place
-unfoldable pub bodyAt : List ℕ → ℕ → Kind → ℕ → RuleRead
+unfoldable pub bodyAt : List ℕ → ℕ → SheetKind → ℕ → RuleRead
 bodyAt s n kind at =
     readThen RefusedRule (listAt s 0 n at)
     (λ positive. readThen RefusedRule (listAt s 0 n (positive .next))

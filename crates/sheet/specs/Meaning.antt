@@ -4,34 +4,34 @@ use mathlib.Core.List.{List, [], _∷_}
 use Rattle.rules.specs.Rule.{Rule, Weighted, Sheet, basicRule, constraintRule, choiceRule, weightRule}
 use Rattle.numbers.specs.Lists.{numbersOf}
 use Rattle.sheet.specs.Rule.{ruleAt, ruleThen}
-use Rattle.sheet.specs.Sheet.{checkOf, checkThen}
+use Rattle.sheet.specs.Sheet.{sheetRead, sheetThen}
 use Rattle.numbers.specs.declared.Refusal.{Refusal}
-use Rattle.sheet.specs.declared.rule.Kind.{Kind}
-use Rattle.sheet.specs.declared.rule.Kind.the-variants.{Basic, Constraint, Choice, Weight}
-use Rattle.sheet.specs.declared.rule.Literals.{Literals}
-use Rattle.sheet.specs.declared.rule.Rule.{Rule as ReadRule}
-use Rattle.sheet.specs.declared.sheet.Outline.{Outline}
+use Rattle.sheet.specs.declared.SheetKind.{SheetKind}
+use Rattle.sheet.specs.declared.SheetKind.the-variants.{Basic, Constraint, Choice, Weight}
+use Rattle.sheet.specs.declared.Literals.{Literals}
+use Rattle.sheet.specs.declared.SheetRule.{SheetRule}
+use Rattle.sheet.specs.declared.Outline.{Outline}
 
 -- each atom with the weight at its place
-unfoldable pub weigh : List ℕ → List ℕ → List Weighted
-weigh [] ws = []
-weigh (x ∷ xs) [] = []
-weigh (x ∷ xs) (w ∷ ws) = record { atom = x; weight = w } ∷ weigh xs ws
+unfoldable pub paired : List ℕ → List ℕ → List Weighted
+paired [] ws = []
+paired (x ∷ xs) [] = []
+paired (x ∷ xs) (w ∷ ws) = record { atom = x; weight = w } ∷ paired xs ws
 
-abbrev pub weighed : List ℕ → Literals → List Weighted
-weighed s literals = weigh (numbersOf s (literals .atoms)) (numbersOf s (literals .weights))
+abbrev pub pairedIn : List ℕ → Literals → List Weighted
+pairedIn s literals = paired (numbersOf s (literals .atoms)) (numbersOf s (literals .weights))
 
-abbrev pub ruleBy : List ℕ → Kind → Literals → Literals → Rule
+abbrev pub ruleBy : List ℕ → SheetKind → Literals → Literals → Rule
 ruleBy s (Basic head) positive negated =
     basicRule (head .number) (numbersOf s (positive .atoms)) (numbersOf s (negated .atoms))
 ruleBy s (Constraint head bound) positive negated =
     constraintRule (head .number) bound (numbersOf s (positive .atoms)) (numbersOf s (negated .atoms))
 ruleBy s (Choice heads) positive negated =
     choiceRule (numbersOf s heads) (numbersOf s (positive .atoms)) (numbersOf s (negated .atoms))
-ruleBy s (Weight head bound) positive negated = weightRule (head .number) bound (weighed s positive) (weighed s negated)
+ruleBy s (Weight head bound) positive negated = weightRule (head .number) bound (pairedIn s positive) (pairedIn s negated)
 
 -- what a rule that was read says
-unfoldable pub ruleMeant : List ℕ → ReadRule → Rule
+unfoldable pub ruleMeant : List ℕ → SheetRule → Rule
 ruleMeant s r = ruleBy s (r .kind) (r .positive) (r .negated)
 
 -- so many rules from a place on, as far as there are rules
@@ -55,4 +55,4 @@ pub data Reading : Type 0 where
 
 -- the meaning of any bytes
 unfoldable pub sheetOf : List ℕ → Reading
-sheetOf s = checkThen refused (checkOf s) (λ sheet. accepted (sheetMeant s sheet))
+sheetOf s = sheetThen refused (sheetRead s) (λ sheet. accepted (sheetMeant s sheet))

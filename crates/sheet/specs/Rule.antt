@@ -9,32 +9,34 @@ use Prim.Native.Nat.{ℕ}
 use mathlib.Core.Bool.{Bool, true, false}
 use mathlib.Core.List.{List}
 use lib.Dec.{eqb}
-use Rattle.rules.specs.Number.{atomOf}
+use Rattle.rules.specs.Rule.{basic, constraint, choice, weight, kindNumber}
+use Rattle.rules.specs.Number.{checkedAtom}
 use Rattle.rules.specs.declared.Atom.{Atom}
-use Rattle.numbers.specs.Answer.{refusal, part, pick, readThen, atomThen}
+use Rattle.numbers.specs.Answer.{refusal, span, readThen, atomThen}
+use Rattle.rules.specs.Sum.{pick}
 use Rattle.numbers.specs.Number.{numberAt}
-use Rattle.numbers.specs.Lists.{run, listAt}
+use Rattle.numbers.specs.Lists.{inTurn, listAt}
 use Rattle.numbers.specs.declared.Refusal.{Refusal}
 use Rattle.numbers.specs.declared.Read.{Read}
 use Rattle.numbers.specs.declared.Read.the-variants.{Got, Refused}
 use Rattle.sheet.specs.Body.{bodyAt}
-use Rattle.sheet.specs.declared.rule.Kind.{Kind}
-use Rattle.sheet.specs.declared.rule.Kind.the-variants.{Basic, Constraint, Choice, Weight}
-use Rattle.sheet.specs.declared.rule.Rule.{Rule}
-use Rattle.sheet.specs.declared.rule.RuleRead.{RuleRead}
-use Rattle.sheet.specs.declared.rule.RuleRead.the-variants.{Got as GotRule, Refused as RefusedRule}
+use Rattle.sheet.specs.declared.SheetKind.{SheetKind}
+use Rattle.sheet.specs.declared.SheetKind.the-variants.{Basic, Constraint, Choice, Weight}
+use Rattle.sheet.specs.declared.SheetRule.{SheetRule}
+use Rattle.sheet.specs.declared.RuleRead.{RuleRead}
+use Rattle.sheet.specs.declared.RuleRead.the-variants.{Got as GotRule, Refused as RefusedRule}
 
 -- the head at a place, an atom, and what comes after it
 unfoldable pub headThen : List ℕ → ℕ → ℕ → (Atom → ℕ → RuleRead) → RuleRead
 headThen s n at next =
     readThen RefusedRule (numberAt s at)
-    (λ number. atomThen (RefusedRule (refusal 6 at)) (atomOf n (number .value)) (λ head. next head (number .next)))
+    (λ number. atomThen (RefusedRule (refusal 6 at)) (checkedAtom n (number .value)) (λ head. next head (number .next)))
 
 unfoldable pub basicAt : List ℕ → ℕ → ℕ → RuleRead
 basicAt s n at = headThen s n at (λ head next. bodyAt s n (Basic head) next)
 
 -- a constraint and a weight rule have the same head part
-abbrev pub bounded : Bool → Atom → ℕ → Kind
+abbrev pub bounded : Bool → Atom → ℕ → SheetKind
 bounded true head bound = Weight head bound
 bounded false head bound = Constraint head bound
 
@@ -50,20 +52,20 @@ choiceAt s n at = readThen RefusedRule (listAt s 1 n at) (λ heads. bodyAt s n (
 unfoldable pub ruleAt : List ℕ → ℕ → ℕ → RuleRead
 ruleAt s n at =
     readThen RefusedRule (numberAt s at)
-    (λ kind. pick (eqb (kind .value) 1) (basicAt s n (kind .next))
-    (pick (eqb (kind .value) 2) (boundedAt s n false (kind .next))
-    (pick (eqb (kind .value) 3) (choiceAt s n (kind .next))
-    (pick (eqb (kind .value) 5) (boundedAt s n true (kind .next))
+    (λ kind. pick (eqb (kind .value) (kindNumber basic)) (basicAt s n (kind .next))
+    (pick (eqb (kind .value) (kindNumber constraint)) (boundedAt s n false (kind .next))
+    (pick (eqb (kind .value) (kindNumber choice)) (choiceAt s n (kind .next))
+    (pick (eqb (kind .value) (kindNumber weight)) (boundedAt s n true (kind .next))
     (RefusedRule (refusal 5 at))))))
 
 -- what comes after a rule that was read; a refusal is handed up
-unfoldable pub ruleThen : {A : Type 0} → (Refusal → A) → RuleRead → (Rule → A) → A
+unfoldable pub ruleThen : {A : Type 0} → (Refusal → A) → RuleRead → (SheetRule → A) → A
 ruleThen up (GotRule rule) next = next rule
 ruleThen up (RefusedRule why) next = up why
 
 -- a rule, as one more of a run of rules
 unfoldable pub ruleStep : List ℕ → ℕ → ℕ → ℕ → Read
-ruleStep s n before at = ruleThen Refused (ruleAt s n at) (λ rule. Got (part before at (rule .next)))
+ruleStep s n before at = ruleThen Refused (ruleAt s n at) (λ rule. Got (span before at (rule .next)))
 
 unfoldable pub rulesAt : List ℕ → ℕ → ℕ → ℕ → Read
-rulesAt s n count at = run (ruleStep s n) count 0 (part count at at)
+rulesAt s n count at = inTurn (ruleStep s n) count 0 (span count at at)

@@ -1,45 +1,44 @@
 // The bodies of rules: two lists of atoms, and the weights of their literals where the kind has weights.
 ghost use mathlib.Core.Path.{_≡_};
 ghost use Rattle.sheet.specs.Body.{weightsAt, weightsDue, needFor, weighedAt, bodyAt};
-use super::refusal;
-use super::rule::Kind;
-use super::rule::Literals;
-use super::rule::Rule;
-use super::rule::RuleRead;
-use numbers::Part;
+use super::Literals;
+use super::RuleRead;
+use super::SheetKind;
+use super::SheetRule;
 use numbers::Read;
-use numbers::lists::read_list;
-use numbers::number::read_within;
+use numbers::Span;
+use numbers::read_list;
+use numbers::read_within;
 
 // The largest weight of a literal.
 const WEIGHT_MOST: usize = 1_000_000;
 
 // How many weights are written for so many literals.
-fn weights_due(kind: Kind, count: usize) -> usize
+fn weights_due(kind: SheetKind, count: usize) -> usize
     ensures { λ r. ⌜ r ≡ weightsDue kind count ⌝ }
 {
     match kind {
-        Kind::Basic(_) => 0,
-        Kind::Constraint(_, _) => 0,
-        Kind::Choice(_) => 0,
-        Kind::Weight(_, _) => count,
+        SheetKind::Basic(_) => 0,
+        SheetKind::Constraint(_, _) => 0,
+        SheetKind::Choice(_) => 0,
+        SheetKind::Weight(_, _) => count,
     }
 }
 
 // The need of a rule of this kind, over a body of this length.
-fn need(kind: Kind, length: usize) -> usize
+fn need(kind: SheetKind, length: usize) -> usize
     ensures { λ r. ⌜ r ≡ needFor kind length ⌝ }
 {
     match kind {
-        Kind::Basic(_) => length,
-        Kind::Constraint(_, bound) => bound,
-        Kind::Choice(_) => length,
-        Kind::Weight(_, bound) => bound,
+        SheetKind::Basic(_) => length,
+        SheetKind::Constraint(_, bound) => bound,
+        SheetKind::Choice(_) => length,
+        SheetKind::Weight(_, bound) => bound,
     }
 }
 
 // So many weights from a place on.
-pub fn read_weights(s: &[u8], count: usize, first: usize) -> Read
+fn read_weights(s: &[u8], count: usize, first: usize) -> Read
     ensures { λ r. ⌜ r ≡ weightsAt (now (s .entry)) count first ⌝ }
 {
     let mut at = first;
@@ -50,7 +49,7 @@ pub fn read_weights(s: &[u8], count: usize, first: usize) -> Read
         };
         at = weight.next;
     }
-    Read::Got(Part {
+    Read::Got(Span {
         value: count,
         first,
         next: at,
@@ -58,18 +57,18 @@ pub fn read_weights(s: &[u8], count: usize, first: usize) -> Read
 }
 
 // The rule whose lists were read, with its weights, where its kind has weights.
-fn read_weighed(s: &[u8], kind: Kind, need: usize, positive: Part, negated: Part) -> RuleRead
+fn read_weighed(s: &[u8], kind: SheetKind, need: usize, positive: Span, negated: Span) -> RuleRead
     ensures { λ r. ⌜ r ≡ weighedAt (now (s .entry)) kind need positive negated ⌝ }
 {
-    let got = read_weights(s, weights_due(kind, positive.value), negated.next);
-    let Read::Got(above) = got else {
-        return RuleRead::Refused(refusal(got));
+    let above = match read_weights(s, weights_due(kind, positive.value), negated.next) {
+        Read::Got(weights) => weights,
+        Read::Refused(why) => return RuleRead::Refused(why),
     };
-    let last = read_weights(s, weights_due(kind, negated.value), above.next);
-    let Read::Got(below) = last else {
-        return RuleRead::Refused(refusal(last));
+    let below = match read_weights(s, weights_due(kind, negated.value), above.next) {
+        Read::Got(weights) => weights,
+        Read::Refused(why) => return RuleRead::Refused(why),
     };
-    RuleRead::Got(Rule {
+    RuleRead::Got(SheetRule {
         kind,
         need,
         positive: Literals {
@@ -85,16 +84,16 @@ fn read_weighed(s: &[u8], kind: Kind, need: usize, positive: Part, negated: Part
 }
 
 // The rule of this kind whose body is at a place.
-pub fn read_body(s: &[u8], n: usize, kind: Kind, at: usize) -> RuleRead
+pub(crate) fn read_body(s: &[u8], n: usize, kind: SheetKind, at: usize) -> RuleRead
     ensures { λ r. ⌜ r ≡ bodyAt (now (s .entry)) n kind at ⌝ }
 {
-    let got = read_list(s, 0, n, at);
-    let Read::Got(positive) = got else {
-        return RuleRead::Refused(refusal(got));
+    let positive = match read_list(s, 0, n, at) {
+        Read::Got(list) => list,
+        Read::Refused(why) => return RuleRead::Refused(why),
     };
-    let last = read_list(s, 0, n, positive.next);
-    let Read::Got(negated) = last else {
-        return RuleRead::Refused(refusal(last));
+    let negated = match read_list(s, 0, n, positive.next) {
+        Read::Got(list) => list,
+        Read::Refused(why) => return RuleRead::Refused(why),
     };
     let due = need(kind, positive.value + negated.value);
     read_weighed(s, kind, due, positive, negated)

@@ -2,60 +2,20 @@
 ghost use mathlib.Core.Path.{_≡_};
 ghost use Rattle.numbers.specs.Answer.{refusal};
 ghost use Rattle.sheet.specs.Rule.{bounded, basicAt, boundedAt, choiceAt, ruleAt, rulesAt};
-ghost use Rattle.numbers.specs.declared.Refusal.{Refusal};
+use super::RuleRead;
+use super::SheetKind;
 use super::body::read_body;
-use super::refusal;
-use numbers::Part;
 use numbers::Read;
 use numbers::Refusal;
-use numbers::lists::read_list;
-use numbers::number::read_number;
+use numbers::Span;
+use numbers::read_list;
+use numbers::read_number;
 use rules::Atom;
 use rules::AtomOr;
-
-// The four kinds, each with its own head part: a head, a head and a bound, or a list of heads.
-pub enum Kind {
-    Basic(Atom),
-    Constraint(Atom, usize),
-    Choice(Part),
-    Weight(Atom, usize),
-}
-
-// The literals of one sign of a body: the list of their atoms, and the weights, where weights are written.
-pub struct Literals {
-    pub atoms: Part,
-    pub weights: Part,
-}
-
-// A rule as it stands on the sheet, and the place after it.
-pub struct Rule {
-    pub kind: Kind,
-    pub need: usize,
-    pub positive: Literals,
-    pub negated: Literals,
-    pub next: usize,
-}
-
-pub enum RuleRead {
-    Got(Rule),
-    Refused(Refusal),
-}
-
-impl RuleRead {
-    // The refusal; callers know that this is one, so the other case does not arise.
-    fn refusal(self) -> Refusal
-        requires { ⌜ ((why : Refusal) × (self ≡ RuleRead.Refused why)) ⌝ }
-        ensures { λ r. ⌜ self ≡ RuleRead.Refused r ⌝ }
-    {
-        match self {
-            RuleRead::Got(rule) => Refusal {
-                number: rule.need,
-                place: rule.next,
-            },
-            RuleRead::Refused(why) => why,
-        }
-    }
-}
+use rules::kind::BASIC;
+use rules::kind::CHOICE;
+use rules::kind::CONSTRAINT;
+use rules::kind::WEIGHT;
 
 fn refused(number: usize, place: usize) -> RuleRead
     ensures { λ r. ⌜ r ≡ RuleRead.Refused (refusal number place) ⌝ }
@@ -66,42 +26,42 @@ fn refused(number: usize, place: usize) -> RuleRead
 fn read_basic(s: &[u8], n: usize, at: usize) -> RuleRead
     ensures { λ r. ⌜ r ≡ basicAt (now (s .entry)) n at ⌝ }
 {
-    let got = read_number(s, at);
-    let Read::Got(number) = got else {
-        return RuleRead::Refused(refusal(got));
+    let number = match read_number(s, at) {
+        Read::Got(number) => number,
+        Read::Refused(why) => return RuleRead::Refused(why),
     };
     let checked = Atom::checked(number.value, n);
     let AtomOr::Is(head) = checked else {
         return refused(6, at);
     };
-    read_body(s, n, Kind::Basic(head), number.next)
+    read_body(s, n, SheetKind::Basic(head), number.next)
 }
 
 // The kind with this head and bound: a weight rule's where its literals are weighed, and else a constraint's.
-fn bounded(weighs: bool, head: Atom, bound: usize) -> Kind
+fn bounded(weighs: bool, head: Atom, bound: usize) -> SheetKind
     ensures { λ r. ⌜ r ≡ bounded weighs head bound ⌝ }
 {
     if weighs {
-        Kind::Weight(head, bound)
+        SheetKind::Weight(head, bound)
     } else {
-        Kind::Constraint(head, bound)
+        SheetKind::Constraint(head, bound)
     }
 }
 
 fn read_bounded(s: &[u8], n: usize, weighs: bool, at: usize) -> RuleRead
     ensures { λ r. ⌜ r ≡ boundedAt (now (s .entry)) n weighs at ⌝ }
 {
-    let got = read_number(s, at);
-    let Read::Got(number) = got else {
-        return RuleRead::Refused(refusal(got));
+    let number = match read_number(s, at) {
+        Read::Got(number) => number,
+        Read::Refused(why) => return RuleRead::Refused(why),
     };
     let checked = Atom::checked(number.value, n);
     let AtomOr::Is(head) = checked else {
         return refused(6, at);
     };
-    let last = read_number(s, number.next);
-    let Read::Got(bound) = last else {
-        return RuleRead::Refused(refusal(last));
+    let bound = match read_number(s, number.next) {
+        Read::Got(bound) => bound,
+        Read::Refused(why) => return RuleRead::Refused(why),
     };
     read_body(s, n, bounded(weighs, head, bound.value), bound.next)
 }
@@ -109,49 +69,49 @@ fn read_bounded(s: &[u8], n: usize, weighs: bool, at: usize) -> RuleRead
 fn read_choice(s: &[u8], n: usize, at: usize) -> RuleRead
     ensures { λ r. ⌜ r ≡ choiceAt (now (s .entry)) n at ⌝ }
 {
-    let got = read_list(s, 1, n, at);
-    let Read::Got(heads) = got else {
-        return RuleRead::Refused(refusal(got));
+    let heads = match read_list(s, 1, n, at) {
+        Read::Got(heads) => heads,
+        Read::Refused(why) => return RuleRead::Refused(why),
     };
-    read_body(s, n, Kind::Choice(heads), heads.next)
+    read_body(s, n, SheetKind::Choice(heads), heads.next)
 }
 
 // The rule at a place, on a sheet of n atoms.
 pub fn read_rule(s: &[u8], n: usize, at: usize) -> RuleRead
     ensures { λ r. ⌜ r ≡ ruleAt (now (s .entry)) n at ⌝ }
 {
-    let got = read_number(s, at);
-    let Read::Got(kind) = got else {
-        return RuleRead::Refused(refusal(got));
+    let kind = match read_number(s, at) {
+        Read::Got(kind) => kind,
+        Read::Refused(why) => return RuleRead::Refused(why),
     };
-    if kind.value == 1 {
+    if kind.value == BASIC {
         return read_basic(s, n, kind.next);
     }
-    if kind.value == 2 {
+    if kind.value == CONSTRAINT {
         return read_bounded(s, n, false, kind.next);
     }
-    if kind.value == 3 {
+    if kind.value == CHOICE {
         return read_choice(s, n, kind.next);
     }
-    if kind.value == 5 {
+    if kind.value == WEIGHT {
         return read_bounded(s, n, true, kind.next);
     }
     refused(5, at)
 }
 
 // So many rules from a place on.
-pub fn read_rules(s: &[u8], n: usize, count: usize, first: usize) -> Read
+pub(crate) fn read_rules(s: &[u8], n: usize, count: usize, first: usize) -> Read
     ensures { λ r. ⌜ r ≡ rulesAt (now (s .entry)) n count first ⌝ }
 {
     let mut at = first;
     for _ in 0..count {
-        let got = read_rule(s, n, at);
-        let RuleRead::Got(rule) = got else {
-            return Read::Refused(got.refusal());
+        let rule = match read_rule(s, n, at) {
+            RuleRead::Got(rule) => rule,
+            RuleRead::Refused(why) => return Read::Refused(why),
         };
         at = rule.next;
     }
-    Read::Got(Part {
+    Read::Got(Span {
         value: count,
         first,
         next: at,

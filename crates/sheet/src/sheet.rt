@@ -1,52 +1,21 @@
 // The whole sheet: accepted, or refused for the first reason in reading order.
 ghost use mathlib.Core.Path.{_≡_};
-ghost use Rattle.sheet.specs.Sheet.{editionAt, tailAt, restAt, wholeAt, checkOf, ruleFrom, ruleNumbered};
-ghost use Rattle.numbers.specs.declared.Refusal.{Refusal};
-use super::refusal;
-use super::rule::RuleRead;
-use super::rule::read_rule;
+ghost use Rattle.numbers.specs.Answer.{refusal};
+ghost use Rattle.sheet.specs.Sheet.{editionAt, tailAt, restAt, wholeAt, sheetRead};
+use super::Outline;
+use super::SheetRead;
 use super::rule::read_rules;
-use numbers::Part;
 use numbers::Read;
 use numbers::Refusal;
-use numbers::lists::read_list;
-use numbers::number::read_number;
-use numbers::number::read_within;
+use numbers::Span;
+use numbers::read_list;
+use numbers::read_number;
+use numbers::read_within;
 use rules::Atom;
 use rules::RuleNo;
-use rules::RuleOr;
 
 // The longest sheet, in bytes.
 pub const BYTES_MOST: usize = 65_536;
-
-// An accepted sheet: its atom count, its rules (their count, and the place of the first), its compute-in and its compute-out list.
-pub struct Outline {
-    pub atoms: usize,
-    pub rules: Part,
-    pub ins: Part,
-    pub outs: Part,
-}
-
-pub enum Checked {
-    Accepted(Outline),
-    Refused(Refusal),
-}
-
-impl Checked {
-    // The refusal; callers know that this is one, so the other case does not arise.
-    fn refusal(self) -> Refusal
-        requires { ⌜ ((why : Refusal) × (self ≡ Checked.Refused why)) ⌝ }
-        ensures { λ r. ⌜ self ≡ Checked.Refused r ⌝ }
-    {
-        match self {
-            Checked::Accepted(sheet) => Refusal {
-                number: sheet.atoms,
-                place: sheet.atoms,
-            },
-            Checked::Refused(why) => why,
-        }
-    }
-}
 
 // The edition, which is 1.
 fn read_edition(s: &[u8]) -> Read
@@ -65,25 +34,28 @@ fn read_edition(s: &[u8]) -> Read
     })
 }
 
+fn refused(number: usize, place: usize) -> SheetRead
+    ensures { λ r. ⌜ r ≡ SheetRead.Refused (refusal number place) ⌝ }
+{
+    SheetRead::Refused(Refusal { number, place })
+}
+
 // The compute lists after the rules, and nothing more.
-fn read_tail(s: &[u8], n: usize, rules: Part) -> Checked
+fn read_tail(s: &[u8], n: usize, rules: Span) -> SheetRead
     ensures { λ r. ⌜ r ≡ tailAt (now (s .entry)) n rules ⌝ }
 {
-    let got = read_list(s, 0, n, rules.next);
-    let Read::Got(ins) = got else {
-        return Checked::Refused(refusal(got));
+    let ins = match read_list(s, 0, n, rules.next) {
+        Read::Got(list) => list,
+        Read::Refused(why) => return SheetRead::Refused(why),
     };
-    let last = read_list(s, 0, n, ins.next);
-    let Read::Got(outs) = last else {
-        return Checked::Refused(refusal(last));
+    let outs = match read_list(s, 0, n, ins.next) {
+        Read::Got(list) => list,
+        Read::Refused(why) => return SheetRead::Refused(why),
     };
     if outs.next < s.len() {
-        return Checked::Refused(Refusal {
-            number: 8,
-            place: outs.next,
-        });
+        return refused(8, outs.next);
     }
-    Checked::Accepted(Outline {
+    SheetRead::Accepted(Outline {
         atoms: n,
         rules,
         ins,
@@ -92,78 +64,41 @@ fn read_tail(s: &[u8], n: usize, rules: Part) -> Checked
 }
 
 // The rule count at a place, the rules, and what comes after them.
-fn read_rest(s: &[u8], n: usize, at: usize) -> Checked
+fn read_rest(s: &[u8], n: usize, at: usize) -> SheetRead
     ensures { λ r. ⌜ r ≡ restAt (now (s .entry)) n at ⌝ }
 {
-    let got = read_within(s, 0, RuleNo::LAST, at);
-    let Read::Got(count) = got else {
-        return Checked::Refused(refusal(got));
+    let count = match read_within(s, 0, RuleNo::LAST, at) {
+        Read::Got(count) => count,
+        Read::Refused(why) => return SheetRead::Refused(why),
     };
-    let last = read_rules(s, n, count.value, count.next);
-    let Read::Got(rules) = last else {
-        return Checked::Refused(refusal(last));
+    let rules = match read_rules(s, n, count.value, count.next) {
+        Read::Got(rules) => rules,
+        Read::Refused(why) => return SheetRead::Refused(why),
     };
     read_tail(s, n, rules)
 }
 
 // The sheet in reading order.
-fn read_whole(s: &[u8]) -> Checked
+fn read_whole(s: &[u8]) -> SheetRead
     ensures { λ r. ⌜ r ≡ wholeAt (now (s .entry)) ⌝ }
 {
-    let got = read_edition(s);
-    let Read::Got(edition) = got else {
-        return Checked::Refused(refusal(got));
+    let edition = match read_edition(s) {
+        Read::Got(edition) => edition,
+        Read::Refused(why) => return SheetRead::Refused(why),
     };
-    let last = read_within(s, 0, Atom::LAST, edition.next);
-    let Read::Got(atoms) = last else {
-        return Checked::Refused(refusal(last));
+    let atoms = match read_within(s, 0, Atom::LAST, edition.next) {
+        Read::Got(atoms) => atoms,
+        Read::Refused(why) => return SheetRead::Refused(why),
     };
     read_rest(s, atoms.value, atoms.next)
 }
 
-// Check a sheet: accepted, or its refusal.
-pub fn check(s: &[u8]) -> Checked
-    ensures { λ r. ⌜ r ≡ checkOf (now (s .entry)) ⌝ }
+// A sheet: accepted, or its refusal.
+pub fn read_sheet(s: &[u8]) -> SheetRead
+    ensures { λ r. ⌜ r ≡ sheetRead (now (s .entry)) ⌝ }
 {
     if BYTES_MOST < s.len() {
-        return Checked::Refused(Refusal {
-            number: 9,
-            place: BYTES_MOST,
-        });
+        return refused(9, BYTES_MOST);
     }
     read_whole(s)
-}
-
-// The rule that comes so many rules after the one at a place.
-pub fn read_rule_after(s: &[u8], n: usize, skip: usize, first: usize) -> RuleRead
-    ensures { λ r. ⌜ r ≡ ruleFrom skip (now (s .entry)) n first ⌝ }
-{
-    let mut at = first;
-    for _ in 0..skip {
-        let got = read_rule(s, n, at);
-        let RuleRead::Got(rule) = got else {
-            return got;
-        };
-        at = rule.next;
-    }
-    read_rule(s, n, at)
-}
-
-// Read a rule by its number, 1 for the first.
-pub fn rule_by_number(s: &[u8], number: usize) -> RuleRead
-    ensures { λ r. ⌜ r ≡ ruleNumbered (now (s .entry)) number ⌝ }
-{
-    let answer = check(s);
-    let Checked::Accepted(sheet) = answer else {
-        return RuleRead::Refused(answer.refusal());
-    };
-    let rules = sheet.rules;
-    let checked = RuleNo::checked(number, rules.value);
-    let RuleOr::Is(rule) = checked else {
-        return RuleRead::Refused(Refusal {
-            number: 13,
-            place: 0,
-        });
-    };
-    read_rule_after(s, sheet.atoms, rule.number - RuleNo::FIRST, rules.first)
 }

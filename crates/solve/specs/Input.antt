@@ -6,6 +6,6 @@ use lib.ListN.{length, take}
 use Rattle.solve.specs.declared.Input.{Input}
 use Rattle.solve.specs.declared.Input.the-variants.{Bytes, Failed}
 
-abbrev pub Within : List ℕ → Input → Type 0
-Within buffer (Bytes len) = (len ≤ length buffer) × (len ≡ length (take len buffer))
-Within buffer Failed = Unit {0}
+abbrev pub InBuffer : List ℕ → Input → Type 0
+InBuffer buffer (Bytes len) = (len ≤ length buffer) × (len ≡ length (take len buffer))
+InBuffer buffer Failed = Unit {0}

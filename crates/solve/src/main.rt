@@ -4,8 +4,8 @@ mod answer;
 use answer::answer;
 use libc::STDIN_FILENO;
 use libc::STDOUT_FILENO;
-use sheet::sheet::BYTES_MOST;
-ghost use Rattle.solve.specs.Input.{Within};
+use sheet::BYTES_MOST;
+ghost use Rattle.solve.specs.Input.{InBuffer};
 
 // One byte more than a sheet may have, so that a longer one is passed on as longer.
 const MOST: usize = BYTES_MOST + 1;
@@ -17,7 +17,7 @@ enum Input {
 
 // Standard input to its end, or until the buffer is full.
 fn read_all(buffer: &mut [u8]) -> Input
-    ensures { λ r. ⌜ Within (now (buffer .exit)) r ⌝ }
+    ensures { λ r. ⌜ InBuffer (now (buffer .exit)) r ⌝ }
 {
     let mut len = 0;
     while len < buffer.len() {

@@ -1,16 +1,17 @@
 // A table: the rules of a sheet as one list of words. Nothing here asks anything of the words: a word past the end is 0.
+pub mod parts;
+
 ghost use mathlib.Core.Path.{_≡_};
 ghost use Rattle.rules.specs.Rule.{chooses};
-ghost use Rattle.table.specs.Words.{wordAt, atomAt, weightAt};
-ghost use Rattle.table.specs.Rows.{kindAt, needAt, headsAt, positivesAt, negativesAt, endAt};
+ghost use Rattle.table.specs.inner.Words.{wordAt, pairAtom, pairWeight};
+pub use parts::part;
+use rules::kind::CHOICE;
+ghost use Rattle.table.specs.inner.Rows.{kindAt, needAt, headsAt, positivesAt, negativesAt, endAt};
 
 // How many words a row and a pair have.
 pub const ROW: usize = 5;
 
 pub const PAIR: usize = 2;
-
-// The kind of a choice rule.
-pub const CHOICE: u32 = 3;
 
 pub fn word(code: &[u32], i: usize) -> u32
     ensures { λ r. ⌜ r ≡ wordAt (now (code .entry)) i ⌝ }
@@ -20,13 +21,13 @@ pub fn word(code: &[u32], i: usize) -> u32
 
 // The atom of pair j, and the weight of its literal.
 pub fn atom_at(code: &[u32], j: u32) -> u32
-    ensures { λ r. ⌜ r ≡ atomAt (now (code .entry)) j ⌝ }
+    ensures { λ r. ⌜ r ≡ pairAtom (now (code .entry)) j ⌝ }
 {
     word(code, PAIR * (j as usize))
 }
 
 pub fn weight_at(code: &[u32], j: u32) -> u32
-    ensures { λ r. ⌜ r ≡ weightAt (now (code .entry)) j ⌝ }
+    ensures { λ r. ⌜ r ≡ pairWeight (now (code .entry)) j ⌝ }
 {
     word(code, PAIR * (j as usize) + 1)
 }
@@ -35,7 +36,7 @@ pub fn weight_at(code: &[u32], j: u32) -> u32
 pub fn is_choice(code: &[u32], i: u32) -> bool
     ensures { λ r. ⌜ r ≡ chooses (kindAt (now (code .entry)) i) ⌝ }
 {
-    word(code, ROW * (i as usize)) == CHOICE
+    word(code, ROW * (i as usize)) == CHOICE as u32
 }
 
 pub fn need_at(code: &[u32], i: u32) -> u32

@@ -12,7 +12,8 @@ use Rattle.rules.specs.Rule.{Within}
 use Rattle.rules.specs.Map.{side, is}
 use Rattle.rules.proofs.Tests.{and-T, T-and-left, T-and-right, T-true, true-T, eq-T, T-eq}
 use Rattle.rules.proofs.Inside.{inside-true, within?, inside-false}
-use Rattle.text.specs.Line.{digit, digits, spaced, spacedAll, isIn, inAtom, inAtoms, modelWord, noneWord, refusedWord, modelLine, noneLine, refusedLine, valueAfter, figures, Decimal, plain, OneLine, rising}
+use Rattle.text.specs.Line.{digit, digits, spaced, spacedAll, isIn, inAtom, inAtoms, modelWord, noneWord, refusedWord, modelLine, noneLine, refusedLine}
+use Rattle.text.specs.shown.Legible.{valueAfter, figures, Decimal, plain, OneLine, rising}
 use Rattle.text.proofs.Lines.{less, digits-small, digits-large}
 
 value-join : (high : ℕ) (ds : List ℕ) (d : ℕ) → valueAfter high (ds ++ (d ∷ [])) ≡ valueAfter high ds * 10 + (d - 48)
@@ -197,10 +198,10 @@ rising-join low (x ∷ xs) y t h below =
     (rising-join x xs y (T-and-right (ltb low x) (rising x xs) t) (below x (List·Memᴰ·head refl)) (λ z mem. below z (List·Memᴰ·tail mem)))
 
 -- and in order
-pub in-order : (n : ℕ) (m : List ℕ) → T (rising 0 (inAtoms n m))
+pub names-in-order : (n : ℕ) (m : List ℕ) → T (rising 0 (inAtoms n m))
 unfolding inAtoms rising
-in-order zero m = tt
-in-order (suc i) m = step (isIn m i) (in-order i m)
+names-in-order zero m = tt
+names-in-order (suc i) m = step (isIn m i) (names-in-order i m)
   where
     step : (b : Bool) → T (rising 0 (inAtoms i m)) → T (rising 0 (inAtoms i m ++ cond b (suc i ∷ []) []))
     step true t =

@@ -7,12 +7,12 @@ use native.Mathlib.Nat.{mul-le-mul-left, mul-le-mul-right}
 use lib.ListN.{length, take, length-append, length-take}
 use lib.Dec.{lit≤}
 use Rattle.rules.specs.Limits.{atomsMost}
-use Rattle.text.specs.Line.{spaced, spacedAll, inAtoms, modelWord, refusedWord, feed, noneLine, refusedLine, digits, digitsIn}
-use Rattle.text.specs.Put.{lineMost, Room, RoomForModel, Puts, Holds}
+use Rattle.text.specs.Line.{spaced, spacedAll, inAtoms, modelWord, refusedWord, feed, noneLine, refusedLine, digits, digitsIn, Spells}
+use Rattle.text.specs.inner.Put.{lineMost, BytesFit, ModelFits, Appends}
 use Rattle.text.proofs.Lines.{spaced-grows, all-fit}
 
 -- a line that starts the buffer is all that is put
-pub held : {out bytes : List ℕ} {len : ℕ} {text : List ℕ} → Puts out 0 text bytes len → Holds bytes len text
+pub held : {out bytes : List ℕ} {len : ℕ} {text : List ℕ} → Appends out 0 text bytes len → Spells bytes len text
 held {out} {bytes} {len} {text} p =
     let long : length (take len bytes) ≡ length text = ap length (p .stands) in
     record {
@@ -24,14 +24,14 @@ held {out} {bytes} {len} {text} p =
 -- one byte, for the line feed, still fits after the atoms
 pub feed-fits :
     {out out′ out″ : List ℕ} {word atoms n b : ℕ} (m : List ℕ)
-    → RoomForModel out n
-    → Puts out 0 modelWord out′ word
-    → Puts out′ word (spacedAll (inAtoms n m)) out″ atoms
-    → Room out″ atoms (b ∷ [])
+    → ModelFits out n
+    → Appends out 0 modelWord out′ word
+    → Appends out′ word (spacedAll (inAtoms n m)) out″ atoms
+    → BytesFit out″ atoms (b ∷ [])
 feed-fits {n = n} m room p q =
     record { fits = omega (arith, room .fits, p .long, p .ends, q .long, q .ends, all-fit m n n (omega arith)) }
 
-pub model-fits : (bytes : List ℕ) (n : ℕ) → length bytes ≡ lineMost → n ≤ atomsMost → RoomForModel bytes n
+pub model-fits : (bytes : List ℕ) (n : ℕ) → length bytes ≡ lineMost → n ≤ atomsMost → ModelFits bytes n
 unfolding atomsMost spaced digits digitsIn
 model-fits bytes n e h =
     let most : length modelWord + length feed + atomsMost * length (spaced atomsMost) ≤ lineMost = lit≤ tt in
@@ -45,7 +45,7 @@ model-fits bytes n e h =
           );
     }
 
-pub none-fits : (bytes : List ℕ) → length bytes ≡ lineMost → Room bytes 0 noneLine
+pub none-fits : (bytes : List ℕ) → length bytes ≡ lineMost → BytesFit bytes 0 noneLine
 unfolding noneLine
 none-fits bytes e = record { fits = omega arith }
 
@@ -64,7 +64,7 @@ pub refused-fits :
     → length bytes ≡ lineMost
     → number < 2 ^ 64
     → place < 2 ^ 64
-    → Room bytes 0 (refusedLine number place)
+    → BytesFit bytes 0 (refusedLine number place)
 unfolding spaced digits digitsIn
 refused-fits bytes number place e h i =
     let last = 2 ^ 64 - 1 in

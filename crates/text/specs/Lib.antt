@@ -1,2 +1,3 @@
 pub mod Line
-pub mod Put
+pub mod inner
+pub mod shown

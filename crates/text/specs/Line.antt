@@ -1,11 +1,11 @@
 -- "The program writes one line: `MODEL` and the in-atoms, each after one space; or `NONE`; or `REFUSED` number place."
 -- A line is a list of bytes, and ends in a line feed. A number is written in decimal, with no leading zero.
-use Prim.Native.Nat.{ℕ, zero, suc, _+_, _-_, _*_, _/_, _%_, _≤_}
+use Prim.Native.Nat.{ℕ, zero, suc, _+_, _/_, _%_, _≤_}
 use mathlib.Core.Path.{_≡_}
-use mathlib.Core.Bool.{Bool, true, false, not, _&&_, cond}
+use mathlib.Core.Bool.{Bool, true, false, cond}
 use mathlib.Core.List.{List, [], _∷_, _++_}
-use lib.ListN.{getD}
-use lib.Dec.{T, eqb, ltb, leb}
+use lib.ListN.{length, getD, take}
+use lib.Dec.{eqb, ltb}
 
 -- the byte of a digit below 10
 abbrev pub digit : ℕ → ℕ
@@ -63,34 +63,8 @@ noneLine = noneWord ++ feed
 unfoldable pub refusedLine : ℕ → ℕ → List ℕ
 refusedLine number place = refusedWord ++ spaced number ++ spaced place ++ feed
 
--- the number that digits mean, after the digits of another number
-unfoldable pub valueAfter : ℕ → List ℕ → ℕ
-valueAfter high [] = high
-valueAfter high (b ∷ bs) = valueAfter (high * 10 + (b - 48)) bs
-
--- every byte is a digit
-unfoldable pub figures : List ℕ → Bool
-figures [] = true
-figures (b ∷ bs) = (leb 48 b && leb b 57) && figures bs
-
--- digits that mean this number, the first of which is 0 for no number but 0
-pub record Decimal (x : ℕ) (bs : List ℕ) : Type 0 where
-  pub digital : T (figures bs)
-  pub means : valueAfter 0 bs ≡ x
-  pub leads : 1 ≤ x → 49 ≤ getD bs 0 0
-
--- no byte is a line feed
-unfoldable pub plain : List ℕ → Bool
-plain [] = true
-plain (b ∷ bs) = not (eqb b 10) && plain bs
-
--- a line feed, and no other before it
-pub record OneLine (line : List ℕ) : Type 0 where
-  pub body : List ℕ
-  pub ends : line ≡ body ++ feed
-  pub single : T (plain body)
-
--- each number is above the one before it, and the first is above low
-unfoldable pub rising : ℕ → List ℕ → Bool
-rising low [] = true
-rising low (x ∷ xs) = ltb low x && rising x xs
+-- the first len bytes of a buffer are this text. The second part is what a caller that lends them has to show.
+pub record Spells (bytes : List ℕ) (len : ℕ) (text : List ℕ) : Type 0 where
+  pub within : len ≤ length bytes
+  pub counts : len ≡ length (take len bytes)
+  pub stands : take len bytes ≡ text

@@ -3,8 +3,8 @@ ghost use Prim.Native.Nat.{min};
 ghost use mathlib.Core.Path.{_≡_};
 ghost use lib.ListN.{length};
 ghost use Rattle.rules.specs.Limits.{atomsMost};
-ghost use Rattle.text.specs.Line.{modelLine, noneLine, refusedLine};
-ghost use Rattle.text.specs.Put.{lineMost, Room, RoomForModel, Puts, Holds};
+ghost use Rattle.text.specs.Line.{modelLine, noneLine, refusedLine, Spells};
+ghost use Rattle.text.specs.inner.Put.{lineMost, BytesFit, ModelFits, Appends};
 use rules::Atom;
 
 mod put;
@@ -37,8 +37,8 @@ fn atoms_of(n: usize) -> usize
 }
 
 fn put_model(out: &mut [u8], map: &[u8], n: usize) -> usize
-    requires { ⌜ RoomForModel (now out) n ⌝ }
-    ensures { λ r. ⌜ Puts (now (out .entry)) 0 (modelLine n (now (map .entry))) (now (out .exit)) r ⌝ }
+    requires { ⌜ ModelFits (now out) n ⌝ }
+    ensures { λ r. ⌜ Appends (now (out .entry)) 0 (modelLine n (now (map .entry))) (now (out .exit)) r ⌝ }
 {
     let word = put_word(out, 0, b"MODEL");
     let atoms = put_atoms(out, word, map, n);
@@ -46,16 +46,16 @@ fn put_model(out: &mut [u8], map: &[u8], n: usize) -> usize
 }
 
 fn put_none(out: &mut [u8]) -> usize
-    requires { ⌜ Room (now out) 0 noneLine ⌝ }
-    ensures { λ r. ⌜ Puts (now (out .entry)) 0 noneLine (now (out .exit)) r ⌝ }
+    requires { ⌜ BytesFit (now out) 0 noneLine ⌝ }
+    ensures { λ r. ⌜ Appends (now (out .entry)) 0 noneLine (now (out .exit)) r ⌝ }
 {
     let word = put_word(out, 0, b"NONE");
     put_byte(out, word, b'\n')
 }
 
 fn put_refused(out: &mut [u8], number: usize, place: usize) -> usize
-    requires { ⌜ Room (now out) 0 (refusedLine number place) ⌝ }
-    ensures { λ r. ⌜ Puts (now (out .entry)) 0 (refusedLine number place) (now (out .exit)) r ⌝ }
+    requires { ⌜ BytesFit (now out) 0 (refusedLine number place) ⌝ }
+    ensures { λ r. ⌜ Appends (now (out .entry)) 0 (refusedLine number place) (now (out .exit)) r ⌝ }
 {
     let word = put_word(out, 0, b"REFUSED");
     let first = put_spaced(out, word, number);
@@ -66,7 +66,7 @@ fn put_refused(out: &mut [u8], number: usize, place: usize) -> usize
 // The line of a model: the atoms of 1 to n whose byte in the map is 1, atom a at index a - 1. A sheet has no more atoms than
 // Atom::LAST, so a larger n counts as that.
 pub fn model_line(map: &[u8], n: usize) -> Line
-    ensures { λ r. ⌜ Holds (r .bytes) (r .len) (modelLine (min n atomsMost) (now (map .entry))) ⌝ }
+    ensures { λ r. ⌜ Spells (r .bytes) (r .len) (modelLine (min n atomsMost) (now (map .entry))) ⌝ }
 {
     let mut bytes = blank();
     let len = put_model(&mut bytes, map, atoms_of(n));
@@ -75,7 +75,7 @@ pub fn model_line(map: &[u8], n: usize) -> Line
 
 // The line that says that there is no model.
 pub fn none_line() -> Line
-    ensures { λ r. ⌜ Holds (r .bytes) (r .len) noneLine ⌝ }
+    ensures { λ r. ⌜ Spells (r .bytes) (r .len) noneLine ⌝ }
 {
     let mut bytes = blank();
     let len = put_none(&mut bytes);
@@ -84,7 +84,7 @@ pub fn none_line() -> Line
 
 // The line of a refusal.
 pub fn refused_line(number: usize, place: usize) -> Line
-    ensures { λ r. ⌜ Holds (r .bytes) (r .len) (refusedLine number place) ⌝ }
+    ensures { λ r. ⌜ Spells (r .bytes) (r .len) (refusedLine number place) ⌝ }
 {
     let mut bytes = blank();
     let len = put_refused(&mut bytes, number, place);

@@ -3,20 +3,20 @@ ghost use Prim.Native.Nat.{suc, _%_};
 ghost use mathlib.Core.Path.{_≡_};
 ghost use mathlib.Core.List.{[], _∷_};
 ghost use Rattle.text.specs.Line.{digit, digits, spaced, spacedAll, isIn, inAtom, inAtoms};
-ghost use Rattle.text.specs.Put.{Room, RoomForAtoms, Puts};
+ghost use Rattle.text.specs.inner.Put.{BytesFit, AtomsFit, Appends};
 
 // Each function below puts its bytes after the first `len` of `out`, and answers the place after them.
 pub(crate) fn put_byte(out: &mut [u8], len: usize, b: u8) -> usize
-    requires { ⌜ Room (now out) len (b ∷ []) ⌝ }
-    ensures { λ r. ⌜ Puts (now (out .entry)) len (b ∷ []) (now (out .exit)) r ⌝ }
+    requires { ⌜ BytesFit (now out) len (b ∷ []) ⌝ }
+    ensures { λ r. ⌜ Appends (now (out .entry)) len (b ∷ []) (now (out .exit)) r ⌝ }
 {
     out[len] = b;
     len + 1
 }
 
 pub(crate) fn put_word(out: &mut [u8], len: usize, word: &[u8]) -> usize
-    requires { ⌜ Room (now out) len (now word) ⌝ }
-    ensures { λ r. ⌜ Puts (now (out .entry)) len (now (word .entry)) (now (out .exit)) r ⌝ }
+    requires { ⌜ BytesFit (now out) len (now word) ⌝ }
+    ensures { λ r. ⌜ Appends (now (out .entry)) len (now (word .entry)) (now (out .exit)) r ⌝ }
 {
     let mut next = len;
     let mut i = 0;
@@ -34,8 +34,8 @@ fn last_digit(x: usize) -> u8
 }
 
 pub(crate) fn put_number(out: &mut [u8], len: usize, x: usize) -> usize
-    requires { ⌜ Room (now out) len (digits x) ⌝ }
-    ensures { λ r. ⌜ Puts (now (out .entry)) len (digits x) (now (out .exit)) r ⌝ }
+    requires { ⌜ BytesFit (now out) len (digits x) ⌝ }
+    ensures { λ r. ⌜ Appends (now (out .entry)) len (digits x) (now (out .exit)) r ⌝ }
 {
     if x < 10 {
         return put_byte(out, len, last_digit(x));
@@ -45,8 +45,8 @@ pub(crate) fn put_number(out: &mut [u8], len: usize, x: usize) -> usize
 }
 
 pub(crate) fn put_spaced(out: &mut [u8], len: usize, x: usize) -> usize
-    requires { ⌜ Room (now out) len (spaced x) ⌝ }
-    ensures { λ r. ⌜ Puts (now (out .entry)) len (spaced x) (now (out .exit)) r ⌝ }
+    requires { ⌜ BytesFit (now out) len (spaced x) ⌝ }
+    ensures { λ r. ⌜ Appends (now (out .entry)) len (spaced x) (now (out .exit)) r ⌝ }
 {
     let first = put_byte(out, len, b' ');
     put_number(out, first, x)
@@ -61,8 +61,8 @@ fn is_in(map: &[u8], i: usize) -> bool
 
 // The atom after index i, where it is in.
 fn put_atom(out: &mut [u8], len: usize, map: &[u8], i: usize) -> usize
-    requires { ⌜ Room (now out) len (spaced (suc i)) ⌝ }
-    ensures { λ r. ⌜ Puts (now (out .entry)) len (spacedAll (inAtom (now (map .entry)) i)) (now (out .exit)) r ⌝ }
+    requires { ⌜ BytesFit (now out) len (spaced (suc i)) ⌝ }
+    ensures { λ r. ⌜ Appends (now (out .entry)) len (spacedAll (inAtom (now (map .entry)) i)) (now (out .exit)) r ⌝ }
 {
     if is_in(map, i) {
         return put_spaced(out, len, i + 1);
@@ -72,8 +72,8 @@ fn put_atom(out: &mut [u8], len: usize, map: &[u8], i: usize) -> usize
 
 // The in-atoms among 1 to n.
 pub(crate) fn put_atoms(out: &mut [u8], len: usize, map: &[u8], n: usize) -> usize
-    requires { ⌜ RoomForAtoms (now out) len n ⌝ }
-    ensures { λ r. ⌜ Puts (now (out .entry)) len (spacedAll (inAtoms n (now (map .entry)))) (now (out .exit)) r ⌝ }
+    requires { ⌜ AtomsFit (now out) len n ⌝ }
+    ensures { λ r. ⌜ Appends (now (out .entry)) len (spacedAll (inAtoms n (now (map .entry)))) (now (out .exit)) r ⌝ }
 {
     let mut next = len;
     let mut i = 0;

@@ -6,29 +6,27 @@ use mathlib.Core.Bool.{Bool}
 use mathlib.Core.Logic.{_⊎_, inl, inr, ⊎-elim}
 use mathlib.Core.List.{List, [], _∷_}
 use native.Mathlib.Omega.{arith}
-use native.Mathlib.Nat.{min-le-left}
 use borrow.Author.Tests.{eq-eqb, ne-eqb}
 use lib.Dec.{eqb}
-use lib.ListN.{length, getD, take, set, length-set, length-take, replicate, length-replicate, getD-replicate}
+use lib.ListN.{length, getD, take, set, length-set, replicate, length-replicate, getD-replicate}
 use lib.Seq.{getD-set-same, getD-set-other}
 use Rattle.rules.specs.Sum.{counted, tally}
 use Rattle.rules.specs.Rule.{Within}
-use Rattle.rules.specs.Map.{IsMap, side}
+use Rattle.rules.specs.Map.{IsMap, side, undecided}
 use Rattle.rules.proofs.Tests.{decided, T-eq, T-ne}
-use Rattle.rules.proofs.Sum.{tally-most}
 use Rattle.rules.proofs.Inside.{within?}
 use Rattle.rules.proofs.Bytes.{side-at, side-beyond, side-map}
-use Rattle.weigh.specs.Step.{Proper, undecided}
+use Rattle.rules.specs.inner.Bytes.{MapBytes}
 
 -- two numbers are equal, or they differ
 pub equal? : (x y : ℕ) → (x ≡ y) ⊎ (x ≡ y → ⊥)
 equal? x y = ⊎-elim (λ t. inl (T-eq t)) (λ t. inr (T-ne t)) (decided (eqb x y))
 
-pub proper-map : (n : ℕ) (m : List ℕ) → Proper n m → IsMap n (side n m)
+pub proper-map : (n : ℕ) (m : List ℕ) → MapBytes n m → IsMap n (side n m)
 proper-map n m p = side-map n m (p .sides)
 
 module _ (n : ℕ) (m : List ℕ) (a v : ℕ) (w : Within n a) where
-  pub proper-put : v ≤ 2 → Proper n m → Proper n (set m (a - 1) v)
+  pub proper-put : v ≤ 2 → MapBytes n m → MapBytes n (set m (a - 1) v)
   proper-put h p =
       record {
         room = simp length-set (p .room);
@@ -62,23 +60,12 @@ pub fewer-put :
 unfolding undecided zeros
 fewer-put n m a v w h e f = zero-less v f n (a - 1) m (omega arith) (omega arith) (sym (side-at n m a w) ∙ e)
 
--- no more atoms are undecided than there are
-pub undecided-few : (n : ℕ) (m : List ℕ) → undecided n m ≤ n
-unfolding undecided
-undecided-few n m =
-    omega (
-      arith,
-      tally-most 1 (λ (b : ℕ). eqb b 0) (λ _. 1) (take n m) (λ b i. omega arith),
-      length-take n m,
-      min-le-left n (length m),
-    )
-
 -- a list of zeros is a map in which every atom is undecided
 module _ (k n : ℕ) (h : n ≤ k) where
   pub blank-room : n ≤ length (replicate {A = ℕ} k 0)
   blank-room = subst (λ (x : ℕ). n ≤ x) (sym (length-replicate k 0)) h
 
-  pub blank-proper : Proper n (replicate k 0)
+  pub blank-proper : MapBytes n (replicate k 0)
   blank-proper =
       record
       { room = blank-room; sides = λ i l. subst (λ (x : ℕ). x ≤ 2) (sym (getD-replicate k i 0 0 (omega arith))) (omega arith) }

@@ -14,18 +14,19 @@ use Rattle.rules.specs.Map.{Map, side, want, _⊑_}
 use Rattle.rules.proofs.Maps.{⊑-refl, ⊑-trans, sides}
 use Rattle.weigh.specs.declared.Outcome.{Outcome}
 use Rattle.weigh.specs.declared.Outcome.the-variants.{Clash, Same, Grew}
-use Rattle.weigh.specs.Step.{Forces, Clashes, Concludes, Proper, Kept, Grown, Went, Step, both, isClash, Till, Decided, Puts}
+use Rattle.weigh.specs.inner.Step.{Forces, Clashes, Concludes, Kept, Grown, Went, Step, both, isClash, Till, Decided, Puts}
+use Rattle.rules.specs.inner.Bytes.{MapBytes}
 use Rattle.rules.proofs.Bytes.{written-above, written-below}
 use Rattle.weigh.proofs.Bytes.{proper-map, proper-put, fewer-put}
 
-pub kept-refl : (n : ℕ) (m : List ℕ) → Proper n m → Kept n m m
+pub kept-refl : (n : ℕ) (m : List ℕ) → MapBytes n m → Kept n m m
 kept-refl n m p = record { proper = p; long = refl; past = λ i h. refl }
 
 pub kept-trans : (n : ℕ) (m m′ m″ : List ℕ) → Kept n m m′ → Kept n m′ m″ → Kept n m m″
 kept-trans n m m′ m″ k l =
     record { proper = l .proper; long = l .long ∙ k .long; past = λ i h. l .past i h ∙ k .past i h }
 
-module _ (n : ℕ) (m : List ℕ) (a v : ℕ) (p : Proper n m) (w : Within n a) (d : Decided v) where
+module _ (n : ℕ) (m : List ℕ) (a v : ℕ) (p : MapBytes n m) (w : Within n a) (d : Decided v) where
   pub kept-put : (m′ : List ℕ) (r : Outcome) → Puts n m a v m′ r → Kept n m m′
   kept-put m′ Clash s = subst (Kept n m) (sym (s .put .0)) (kept-refl n m p)
   kept-put m′ Same s = subst (Kept n m) (sym (s .put .0)) (kept-refl n m p)
@@ -53,7 +54,7 @@ module _ (Good : Map → Type 0) where
   concludes-on h c = record { forced = λ X x f. c .forced X x (⊑-trans h f) }
 
   module _ (n : ℕ) where
-    pub step-same : (Q : Map → Type 0) (m : List ℕ) → Proper n m → Q (side n m) → Step Good n Q m m Same
+    pub step-same : (Q : Map → Type 0) (m : List ℕ) → MapBytes n m → Q (side n m) → Step Good n Q m m Same
     step-same Q m p q = record { kept = kept-refl n m p; went = (refl, q) }
 
     -- a step in whose outcome nothing is lost reads as one that is quiet for something weaker
@@ -100,7 +101,7 @@ module _ (Good : Map → Type 0) where
           record { kept = kept-trans n m m′ m″ (s .kept) k; went = went-joined r q (s .went) (λ h. t h .went) }
 
     -- a run of steps begins, and goes on by one
-    pub steps-begin : (Q : ℕ → Map → Type 0) (from : ℕ) (m : List ℕ) → Proper n m → Step Good n (Till Q from from) m m Same
+    pub steps-begin : (Q : ℕ → Map → Type 0) (from : ℕ) (m : List ℕ) → MapBytes n m → Step Good n (Till Q from from) m m Same
     steps-begin Q from m p = step-same (Till Q from from) m p (λ k l h. absurd (omega arith))
 
     till-more : (Q : ℕ → Map → Type 0) (from j : ℕ) (M : Map) → Till Q from j M × Q j M → Till Q from (j + 1) M
@@ -121,7 +122,7 @@ module _ (Good : Map → Type 0) where
         → Step Good n (Till Q from to) m m′ r
     steps-end Q from to j m m′ r h s = quieter (Till Q from j) (Till Q from to) m m′ r (λ t k l b. t k l (omega arith)) s
 
-    module _ (m : List ℕ) (a v : ℕ) (p : Proper n m) (w : Within n a) (d : Decided v) (c : Concludes Good (side n m) a v) where
+    module _ (m : List ℕ) (a v : ℕ) (p : MapBytes n m) (w : Within n a) (d : Decided v) (c : Concludes Good (side n m) a v) where
       -- an atom that has to be on one side is on the other
       clashes : (side n m a ≡ v → ⊥) → (side n m a ≡ 0 → ⊥) → Clashes Good (side n m)
       clashes f z =

@@ -8,10 +8,10 @@ use Rattle.rules.specs.Limits.{atomsMost, weightMost}
 use Rattle.rules.specs.Sum.{counted}
 use Rattle.rules.specs.Stable.{Set, gain, value}
 use Rattle.rules.specs.Map.{Map}
-use Rattle.table.specs.Words.{seg, Seg}
-use Rattle.table.specs.Rows.{positivesAt, negativesAt, endAt, ruleAt, Row}
+use Rattle.table.specs.inner.Words.{seg, Seg}
+use Rattle.table.specs.inner.Rows.{positivesAt, negativesAt, endAt, rowRule, Row}
 use Rattle.table.proofs.Words.{seg-light}
-use Rattle.weigh.specs.Weigh.{meets, sees}
+use Rattle.weigh.specs.inner.Weigh.{meets, sees}
 
 module _ (M : Map) (e : Bool) (s a a′ x w w′ : ℕ) (b : Bool) (ea : a ≡ a′) (ex : x ≡ M a) (eb : b ≡ meets e s x) where
   seen : b ≡ sees e s M a′
@@ -29,12 +29,12 @@ seg-cast c n {f} {f′} {t} {t′} ef et s = subst (λ (x : ℕ). Seg c n x t) (
 module _ (c : List ℕ) (i : ℕ) (p q : Set) where
   pub value-runs :
       {x y f m t : ℕ} → x ≡ gain p (seg c f m) → y ≡ gain q (seg c m t) → f ≡ positivesAt c i → m ≡ negativesAt c i
-      → t ≡ endAt c i → x + y ≡ value (ruleAt c i) p q
+      → t ≡ endAt c i → x + y ≡ value (rowRule c i) p q
   unfolding value
   value-runs ex ey ef em et =
       ap₂ _+_ (ex ∙ ap₂ (λ (u v : ℕ). gain p (seg c u v)) ef em) (ey ∙ ap₂ (λ (u v : ℕ). gain q (seg c u v)) em et)
 
-  pub value-light : (n : ℕ) → Row c n i → value (ruleAt c i) p q ≤ 2 * (atomsMost * weightMost)
+  pub value-light : (n : ℕ) → Row c n i → value (rowRule c i) p q ≤ 2 * (atomsMost * weightMost)
   unfolding value atomsMost weightMost
   value-light n r =
       omega (arith, seg-light c n p _ _ (r .literals true), seg-light c n q _ _ (r .literals false))

@@ -1,3 +1,1 @@
-pub mod Weigh
-pub mod Step
-pub mod Press
+pub mod inner

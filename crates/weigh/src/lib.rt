@@ -2,14 +2,22 @@
 pub mod press;
 pub mod step;
 
+pub use press::press_body;
+pub use press::side_for;
+pub use step::is_clash;
+pub use step::is_grew;
+pub use step::is_same;
+pub use step::join;
+pub use step::put;
 ghost use Prim.Native.Nat.{_+_};
 ghost use mathlib.Core.Path.{_≡_};
 ghost use Rattle.rules.specs.Sum.{counted};
 ghost use Rattle.rules.specs.Stable.{gain, value};
 ghost use Rattle.rules.specs.Map.{side, sure, reach, margin};
-ghost use Rattle.table.specs.Words.{atomAt, weightAt, seg, Pair};
-ghost use Rattle.table.specs.Rows.{ruleAt, Row};
-ghost use Rattle.weigh.specs.Weigh.{meets, sees, Room, Side, Weighs};
+ghost use Rattle.table.specs.inner.Words.{pairAtom, pairWeight, seg, Pair};
+ghost use Rattle.table.specs.inner.Rows.{rowRule, Row};
+ghost use Rattle.weigh.specs.inner.Weigh.{meets, sees, Side, Weighs};
+ghost use Rattle.rules.specs.inner.Bytes.{Room};
 
 // What a step on a map came to: no closed map holds the map; nothing to add; or something was added.
 pub enum Outcome {
@@ -36,7 +44,7 @@ fn meets_side(x: u8, given: u8, equal: bool) -> bool
 // What the literal of pair j counts for: its weight where its atom's side is such, else 0.
 fn weigh_pair(code: &[u32], n: u32, j: u32, m: &[u8], given: u8, equal: bool) -> u32
     requires { ⌜ Pair (now code) n j × Room n (now m) ⌝ }
-    ensures { λ r. ⌜ r ≡ counted (sees equal given (side n (now (m .entry))) (atomAt (now (code .entry)) j)) (weightAt (now (code .entry)) j) ⌝ }
+    ensures { λ r. ⌜ r ≡ counted (sees equal given (side n (now (m .entry))) (pairAtom (now (code .entry)) j)) (pairWeight (now (code .entry)) j) ⌝ }
 {
     let x = side_of(m, n, table::atom_at(code, j));
     if meets_side(x, given, equal) {
@@ -74,7 +82,7 @@ pub fn weigh_rule(
     same: bool,
 ) -> u32
     requires { ⌜ Row (now code) n i × (Room n (now p) × Room n (now q)) ⌝ }
-    ensures { λ r. ⌜ r ≡ value (ruleAt (now (code .entry)) i) (sees equal given (side n (now (p .entry)))) (sees same other (side n (now (q .entry)))) ⌝ }
+    ensures { λ r. ⌜ r ≡ value (rowRule (now (code .entry)) i) (sees equal given (side n (now (p .entry)))) (sees same other (side n (now (q .entry)))) ⌝ }
 {
     let middle = table::negatives_at(code, i);
     let first = weigh(
@@ -93,7 +101,7 @@ pub fn weigh_rule(
 // The weight of rule i's literals that are true.
 pub fn sure(code: &[u32], n: u32, i: u32, m: &[u8]) -> u32
     requires { ⌜ Row (now code) n i × Room n (now m) ⌝ }
-    ensures { λ r. ⌜ r ≡ sure (ruleAt (now (code .entry)) i) (side n (now (m .entry))) ⌝ }
+    ensures { λ r. ⌜ r ≡ sure (rowRule (now (code .entry)) i) (side n (now (m .entry))) ⌝ }
 {
     weigh_rule(code, n, i, m, 1, true, m, 2, true)
 }
@@ -101,7 +109,7 @@ pub fn sure(code: &[u32], n: u32, i: u32, m: &[u8]) -> u32
 // The weight of rule i's literals that are not false.
 pub fn reach(code: &[u32], n: u32, i: u32, m: &[u8]) -> u32
     requires { ⌜ Row (now code) n i × Room n (now m) ⌝ }
-    ensures { λ r. ⌜ r ≡ reach (ruleAt (now (code .entry)) i) (side n (now (m .entry))) ⌝ }
+    ensures { λ r. ⌜ r ≡ reach (rowRule (now (code .entry)) i) (side n (now (m .entry))) ⌝ }
 {
     weigh_rule(code, n, i, m, 2, false, m, 1, false)
 }
@@ -109,7 +117,7 @@ pub fn reach(code: &[u32], n: u32, i: u32, m: &[u8]) -> u32
 // Reach less need of rule i. Below zero the body can no longer hold.
 pub fn margin(code: &[u32], n: u32, i: u32, m: &[u8]) -> i64
     requires { ⌜ Row (now code) n i × Room n (now m) ⌝ }
-    ensures { λ r. ⌜ r ≡ margin (ruleAt (now (code .entry)) i) (side n (now (m .entry))) ⌝ }
+    ensures { λ r. ⌜ r ≡ margin (rowRule (now (code .entry)) i) (side n (now (m .entry))) ⌝ }
 {
     (reach(code, n, i, m) as i64) - (table::need_at(code, i) as i64)
 }

@@ -5,9 +5,9 @@ use super::step::join;
 use super::step::put;
 ghost use mathlib.Core.Path.{_≡_};
 ghost use Rattle.rules.specs.Map.{want};
-ghost use Rattle.table.specs.Rows.{Row};
-ghost use Rattle.weigh.specs.Step.{Proper};
-ghost use Rattle.weigh.specs.Press.{PairAsks, RunAsks, PressesPair, Presses, PressesBody};
+ghost use Rattle.table.specs.inner.Rows.{Row};
+ghost use Rattle.rules.specs.inner.Bytes.{MapBytes};
+ghost use Rattle.weigh.specs.inner.Press.{PairAsks, RunAsks, PressesPair, Presses, PressesBody};
 
 // Put the atom of pair j on a side, if it is undecided and the pair weighs at least so much.
 fn press_pair(code: &[u32], n: u32, j: u32, least: u32, v: u8, m: &mut [u8]) -> Outcome
@@ -50,7 +50,7 @@ pub fn side_for(truth: bool) -> u8
 
 // Give every undecided literal of rule i that weighs at least so much this truth.
 pub fn press_body(code: &[u32], n: u32, i: u32, least: u32, truth: bool, m: &mut [u8]) -> Outcome
-    requires { ⌜ Row (now code) n i × Proper n (now m) ⌝ }
+    requires { ⌜ Row (now code) n i × MapBytes n (now m) ⌝ }
     ensures { λ r. ⌜ PressesBody (now (code .entry)) n i least truth (now (m .entry)) (now (m .exit)) r ⌝ }
 {
     let middle = table::negatives_at(code, i);

@@ -1,8 +1,8 @@
 // Putting an atom on a side, and joining the outcomes of steps.
 use super::Outcome;
 ghost use mathlib.Core.Path.{_≡_};
-ghost use Rattle.weigh.specs.Step.{Puts, both, isClash, isGrew, isSame};
-ghost use Rattle.weigh.specs.Weigh.{Side};
+ghost use Rattle.weigh.specs.inner.Step.{Puts, both, isClash, isGrew, isSame};
+ghost use Rattle.weigh.specs.inner.Weigh.{Side};
 
 pub fn join(first: Outcome, second: Outcome) -> Outcome
     ensures { λ r. ⌜ r ≡ both first second ⌝ }

@@ -1,22 +1,22 @@
 -- Pairs that were written one after another are the list, and no word below the first of them has changed: each write touches the
 -- two words of its own pair alone.
 use Prim.Native.Nat.{ℕ, zero, suc, _+_, _*_, _-_, _≤_, _<_}
-use mathlib.Core.Path.{_≡_, refl, sym, _∙_, ap}
+use mathlib.Core.Path.{_≡_, refl, sym, _∙_, ap, ap₂}
 use mathlib.Core.List.{List, [], _∷_}
 use native.Mathlib.Omega.{arith}
 use native.Mathlib.Nat.{add-zero}
 use native.Mathlib.Numerals.{add-one}
 use lib.ListN.{length, set}
-use Rattle.rules.specs.Rule.{Weighted}
-use Rattle.table.specs.Words.{pairWidth, wordAt, atomAt, weightAt, pairAt, run, seg}
-use Rattle.decode.specs.Words.{withWords}
-use Rattle.decode.specs.Pairs.{literal, withPair, withPairs, Copied}
+use Rattle.rules.specs.Rule.{Weighted, weighted}
+use Rattle.table.specs.inner.Words.{pairWidth, wordAt, pairAtom, pairWeight, pairAt, pairsFrom, seg}
+use Rattle.decode.specs.inner.Words.{withWords}
+use Rattle.decode.specs.inner.Pairs.{withPair, withPairs, PairsCopied}
 use Rattle.decode.proofs.words.Laws.{words-long, words-other, words-at}
 
 -- two words, one after the other, are a list of one
 pub pair-put :
     (c : List ℕ) (j a w : ℕ) {d e : List ℕ} → d ≡ set c (pairWidth * j) a → e ≡ set d (pairWidth * j + 1) w
-    → Copied c j (literal a w ∷ []) e (j + 1)
+    → PairsCopied c j (weighted a w ∷ []) e (j + 1)
 unfolding withPair withPairs withWords
 pair-put c j a w f g = record { code = g ∙ ap (λ (x : List ℕ). set x (pairWidth * j + 1) w) f; end = refl }
 
@@ -41,28 +41,28 @@ pairs-below c j (l ∷ ls) w h =
 
 -- a pair that was written, with other pairs after it
 module _ (c : List ℕ) (j : ℕ) (l : Weighted) (ls : List Weighted) (room : pairWidth * (j + 1) ≤ length c) where
-  pub atom-written : atomAt (withPairs c j (l ∷ ls)) j ≡ l .atom
-  unfolding atomAt withPair withPairs pairWidth
+  pub atom-written : pairAtom (withPairs c j (l ∷ ls)) j ≡ l .atom
+  unfolding pairAtom withPair withPairs pairWidth
   atom-written =
       pairs-below (withPair c j (l .atom) (l .weight)) (j + 1) ls (pairWidth * j) (omega arith)
       ∙ ap (wordAt (withPair c j (l .atom) (l .weight))) (sym (add-zero (pairWidth * j)))
       ∙ words-at c (pairWidth * j) (l .atom ∷ l .weight ∷ []) 0 (omega arith) (omega arith)
 
-  pub weight-written : weightAt (withPairs c j (l ∷ ls)) j ≡ l .weight
-  unfolding weightAt withPair withPairs pairWidth
+  pub weight-written : pairWeight (withPairs c j (l ∷ ls)) j ≡ l .weight
+  unfolding pairWeight withPair withPairs pairWidth
   weight-written =
       pairs-below (withPair c j (l .atom) (l .weight)) (j + 1) ls (pairWidth * j + 1) (omega arith)
       ∙ words-at c (pairWidth * j) (l .atom ∷ l .weight ∷ []) 1 (omega arith) (omega arith)
 
 -- two tables agree on the words of some pairs, so the pairs are the same
 pub run-same :
-    (c d : List ℕ) (k j : ℕ) → ((w : ℕ) → pairWidth * j ≤ w → w < pairWidth * (j + k) → wordAt d w ≡ wordAt c w) → run d k j ≡ run c k j
-unfolding run atomAt weightAt pairWidth
+    (c d : List ℕ) (k j : ℕ) → ((w : ℕ) → pairWidth * j ≤ w → w < pairWidth * (j + k) → wordAt d w ≡ wordAt c w) → pairsFrom d k j ≡ pairsFrom c k j
+unfolding pairsFrom pairAtom pairWeight pairWidth
 run-same c d zero j same = refl
 run-same c d (suc k) j same =
-    let a : atomAt d j ≡ atomAt c j = same (pairWidth * j) (omega arith) (omega arith) in
-    let b : weightAt d j ≡ weightAt c j = same (pairWidth * j + 1) (omega arith) (omega arith) in
-    let r : run d k (suc j) ≡ run c k (suc j) = run-same c d k (suc j) (λ w l h. same w (omega arith) (omega arith)) in
+    let a : pairAtom d j ≡ pairAtom c j = same (pairWidth * j) (omega arith) (omega arith) in
+    let b : pairWeight d j ≡ pairWeight c j = same (pairWidth * j + 1) (omega arith) (omega arith) in
+    let r : pairsFrom d k (suc j) ≡ pairsFrom c k (suc j) = run-same c d k (suc j) (λ w l h. same w (omega arith) (omega arith)) in
     cc
 
 pub seg-same :
@@ -71,17 +71,17 @@ pub seg-same :
 unfolding seg pairWidth
 seg-same c d from to same = run-same c d (to - from) from (λ w l h. same w l (omega arith))
 
-same-pair : (a w : ℕ) (l : Weighted) → a ≡ l .atom → w ≡ l .weight → record { atom = a; weight = w } ≡ l
-same-pair a w l e f = ap (λ (x : ℕ). record { atom = x; weight = w }) e ∙ ap (λ (x : ℕ). record { atom = l .atom; weight = x }) f
+same-pair : (a w : ℕ) (l : Weighted) → a ≡ l .atom → w ≡ l .weight → weighted a w ≡ l
+same-pair a w l e f = ap₂ weighted e f
 
 run-written :
-    (c : List ℕ) (j : ℕ) (ls : List Weighted) → pairWidth * (j + length ls) ≤ length c → run (withPairs c j ls) (length ls) j ≡ ls
-unfolding run withPairs pairWidth
+    (c : List ℕ) (j : ℕ) (ls : List Weighted) → pairWidth * (j + length ls) ≤ length c → pairsFrom (withPairs c j ls) (length ls) j ≡ ls
+unfolding pairsFrom withPairs pairWidth
 run-written c j [] h = refl
 run-written c j (l ∷ ls) h =
     let p : pairAt (withPairs c j (l ∷ ls)) j ≡ l = same-pair _ _ l (atom-written c j l ls (omega arith)) (weight-written c j l ls (omega arith)) in
-    let r : run (withPairs c j (l ∷ ls)) (length ls) (suc j) ≡ ls =
-    ap (run (withPairs c j (l ∷ ls)) (length ls)) (sym (add-one j))
+    let r : pairsFrom (withPairs c j (l ∷ ls)) (length ls) (suc j) ≡ ls =
+    ap (pairsFrom (withPairs c j (l ∷ ls)) (length ls)) (sym (add-one j))
     ∙ run-written (withPair c j (l .atom) (l .weight)) (j + 1) ls (omega (arith, pair-long c j (l .atom) (l .weight)))
     in
     cc
@@ -91,4 +91,4 @@ pub seg-written :
 unfolding seg
 seg-written c j ls h =
     let e : (j + length ls) - j ≡ length ls = omega arith in
-    ap (λ (k : ℕ). run (withPairs c j ls) k j) e ∙ run-written c j ls h
+    ap (λ (k : ℕ). pairsFrom (withPairs c j ls) k j) e ∙ run-written c j ls h

@@ -6,9 +6,9 @@ use mathlib.Core.List.{List, [], _∷_}
 use native.Mathlib.Omega.{arith}
 use lib.ListN.{length, set, length-set}
 use Rattle.rules.specs.Rule.{Rule, ones}
-use Rattle.table.specs.Words.{rowWidth, pairWidth, wordAt}
-use Rattle.sheet.specs.Encode.{rulesSize}
-use Rattle.decode.specs.Rows.{positivesFrom, negativesFrom, endFrom, withBody, withRow, withRule, withRules, Room}
+use Rattle.table.specs.inner.Words.{rowWidth, pairWidth, wordAt}
+use Rattle.sheet.specs.shown.Encode.{rulesSize}
+use Rattle.decode.specs.inner.Rows.{positivesFrom, negativesFrom, endFrom, withBody, withRow, withRule, withRules, TableRoom}
 use Rattle.decode.proofs.words.Laws.{word-other, words-long, words-other, five-words}
 use Rattle.decode.proofs.pairs.Laws.{pairs-long, pairs-below}
 
@@ -64,6 +64,6 @@ rules-other c i j (r ∷ rs) w h clear =
     (λ k m l b x e. clear k m (omega arith) (omega arith) x e)
     ∙ rule-other c i j r w h (λ k m l b x e. clear k m l (omega arith) x e)
 
-pub room-next : (c : List ℕ) (i j : ℕ) (r : Rule) (rs : List Rule) → Room c i j (r ∷ rs) → Room (withRule c i j r) (i + 1) (endFrom j r) rs
+pub room-next : (c : List ℕ) (i j : ℕ) (r : Rule) (rs : List Rule) → TableRoom c i j (r ∷ rs) → TableRoom (withRule c i j r) (i + 1) (endFrom j r) rs
 unfolding rulesSize rowWidth pairWidth positivesFrom negativesFrom endFrom
 room-next c i j r rs room = record { rows = omega arith; pairs = omega (arith, rule-long c i j r); few = omega arith }

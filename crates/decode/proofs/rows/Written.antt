@@ -3,17 +3,17 @@
 use Prim.Native.Nat.{ℕ, suc, _+_, _*_, _≤_, _<_}
 use mathlib.Core.Path.{_≡_, refl, sym, _∙_, ap, subst}
 use mathlib.Core.Logic.{⊎-elim}
-use mathlib.Core.List.{List, [], _∷_, map, List·Memᴰ, List·Memᴰ·head, List·Memᴰ·tail}
+use mathlib.Core.List.{List, [], _∷_, _++_, List·Memᴰ, List·Memᴰ·head, List·Memᴰ·tail}
 use native.Mathlib.Omega.{arith}
 use native.Mathlib.Nat.{add-zero, eq-or-lt-of-le}
 use native.Mathlib.Numerals.{add-one}
 use lib.ListN.{length, getD, length-map}
-use Rattle.rules.specs.Rule.{Rule, Kind, basic, constraint, choice, weight, ones}
-use Rattle.table.specs.Words.{rowWidth, pairWidth, wordAt, seg, atoms, atomOf}
-use Rattle.table.specs.Rows.{kindOf, kindAt, needAt, headsAt, positivesAt, negativesAt, endAt, ruleAt, rulesFrom}
-use Rattle.sheet.specs.Encode.{rulesSize}
-use Rattle.decode.specs.Pairs.{withPairs}
-use Rattle.decode.specs.Rows.{kindWord, positivesFrom, negativesFrom, endFrom, withBody, withRow, withRule, withRules, Room}
+use Rattle.rules.specs.Rule.{Rule, Kind, basic, constraint, choice, weight, kindNumber, ones, atomsOf}
+use Rattle.table.specs.inner.Words.{rowWidth, pairWidth, wordAt, seg, segAtoms}
+use Rattle.table.specs.inner.Rows.{kindOf, kindAt, needAt, headsAt, positivesAt, negativesAt, endAt, rowRule, rowRules}
+use Rattle.sheet.specs.shown.Encode.{rulesSize}
+use Rattle.decode.specs.inner.Pairs.{withPairs}
+use Rattle.decode.specs.inner.Rows.{positivesFrom, negativesFrom, endFrom, withBody, withRow, withRule, withRules, TableRoom}
 use Rattle.decode.proofs.words.Laws.{word-same, words-other, words-at}
 use Rattle.decode.proofs.rows.Laws.{body-long, rules-other, room-next}
 use Rattle.decode.proofs.pairs.Laws.{pairs-long, pairs-below, seg-same, seg-written}
@@ -42,7 +42,7 @@ module _ (c : List ℕ) (j : ℕ) (r : Rule) (room : pairWidth * endFrom j r ≤
   body-neg = seg-written _ (negativesFrom j r) (r .neg) (simp pairs-long room)
 
 -- row i of a table stands for the rule r, whose pairs begin at j
-pub record Written (c : List ℕ) (i j : ℕ) (r : Rule) : Type 0 where
+pub record RowWritten (c : List ℕ) (i j : ℕ) (r : Rule) : Type 0 where
   pub kind : kindAt c i ≡ r .kind
   pub need : needAt c i ≡ r .need
   pub headsFrom : headsAt c i ≡ j
@@ -53,7 +53,7 @@ pub record Written (c : List ℕ) (i j : ℕ) (r : Rule) : Type 0 where
   pub pos : seg c (positivesFrom j r) (negativesFrom j r) ≡ r .pos
   pub neg : seg c (negativesFrom j r) (endFrom j r) ≡ r .neg
 
-kind-written : (k : Kind) → kindOf (kindWord k) ≡ k
+kind-written : (k : Kind) → kindOf (kindNumber k) ≡ k
 unfolding kindOf
 kind-written basic = refl
 kind-written constraint = refl
@@ -61,10 +61,10 @@ kind-written choice = refl
 kind-written weight = refl
 
 abbrev rowWords : ℕ → Rule → List ℕ
-rowWords j r = kindWord (r .kind) ∷ r .need ∷ j ∷ positivesFrom j r ∷ negativesFrom j r ∷ []
+rowWords j r = kindNumber (r .kind) ∷ r .need ∷ j ∷ positivesFrom j r ∷ negativesFrom j r ∷ []
 
 -- the first of some rules that were written, in the whole table
-module _ (c : List ℕ) (i j : ℕ) (r : Rule) (rs : List Rule) (room : Room c i j (r ∷ rs)) where
+module _ (c : List ℕ) (i j : ℕ) (r : Rule) (rs : List Rule) (room : TableRoom c i j (r ∷ rs)) where
   cell-written : (m : ℕ) → m < rowWidth → wordAt (withRules c i j (r ∷ rs)) (rowWidth * i + m) ≡ getD (rowWords j r) m 0
   unfolding withRules withRule withRow rowWidth pairWidth positivesFrom negativesFrom endFrom rulesSize
   cell-written m h =
@@ -78,12 +78,12 @@ module _ (c : List ℕ) (i j : ℕ) (r : Rule) (rs : List Rule) (room : Room c i
       rules-other (withRule c i j r) (i + 1) (endFrom j r) rs w h (λ k x a b y e. omega arith)
       ∙ words-other (withBody c j r) (rowWidth * i) _ w (λ k b e. omega arith)
 
-rules-heads : (c : List ℕ) (i j : ℕ) (rs : List Rule) → Room c i j rs → headsAt (withRules c i j rs) i ≡ j
+rules-heads : (c : List ℕ) (i j : ℕ) (rs : List Rule) → TableRoom c i j rs → headsAt (withRules c i j rs) i ≡ j
 unfolding headsAt withRules rowWidth pairWidth rulesSize
 rules-heads c i j [] room = word-same c (rowWidth * i + 2) j (omega arith)
 rules-heads c i j (r ∷ rs) room = cell-written c i j r rs room 2 (omega arith)
 
-pub first-written : (c : List ℕ) (i j : ℕ) (r : Rule) (rs : List Rule) → Room c i j (r ∷ rs) → Written (withRules c i j (r ∷ rs)) i j r
+pub first-written : (c : List ℕ) (i j : ℕ) (r : Rule) (rs : List Rule) → TableRoom c i j (r ∷ rs) → RowWritten (withRules c i j (r ∷ rs)) i j r
 unfolding kindAt needAt headsAt positivesAt negativesAt positivesFrom negativesFrom endFrom rowWidth pairWidth rulesSize withRules
 first-written c i j r rs room =
     let cell = cell-written c i j r rs room in
@@ -107,16 +107,16 @@ first-written c i j r rs room =
           seg-same (withBody c j r) _ (negativesFrom j r) (endFrom j r) (λ w l h. kept w (omega arith) h) ∙ body-neg c j r fits;
     }
 
-pub atoms-ones : (xs : List ℕ) → map atomOf (ones xs) ≡ xs
+pub atoms-ones : (xs : List ℕ) → atomsOf (ones xs) ≡ xs
 atoms-ones [] = refl
 atoms-ones (x ∷ xs) = ap (_∷_ x) (atoms-ones xs)
 
-pub rule-written : {c : List ℕ} {i j : ℕ} {r : Rule} → Written c i j r → ruleAt c i ≡ r
-rule-written {c} {i} {j} {r} w =
-    let heads : atoms c (headsAt c i) (positivesAt c i) ≡ r .heads =
-    ap (λ (x : ℕ). atoms c x (positivesAt c i)) (w .headsFrom)
-    ∙ ap (atoms c j) (w .posFrom)
-    ∙ ap (map atomOf) (w .heads)
+pub row-written : {c : List ℕ} {i j : ℕ} {r : Rule} → RowWritten c i j r → rowRule c i ≡ r
+row-written {c} {i} {j} {r} w =
+    let heads : segAtoms c (headsAt c i) (positivesAt c i) ≡ r .heads =
+    ap (λ (x : ℕ). segAtoms c x (positivesAt c i)) (w .headsFrom)
+    ∙ ap (segAtoms c j) (w .posFrom)
+    ∙ ap atomsOf (w .heads)
     ∙ atoms-ones (r .heads)
     in
     let pos : seg c (positivesAt c i) (negativesAt c i) ≡ r .pos = rw (w .posFrom, w .negFrom) (w .pos) in
@@ -124,31 +124,44 @@ rule-written {c} {i} {j} {r} w =
     let kind = w .kind in
     let need = w .need in
     let e :
-    ruleAt c i ≡ record { kind = r .kind; heads = r .heads; need = r .need; pos = r .pos; neg = r .neg } =
+    rowRule c i ≡ record { kind = r .kind; heads = r .heads; need = r .need; pos = r .pos; neg = r .neg } =
     cc
     in
     e
 
-pub rules-written : (c : List ℕ) (i j : ℕ) (rs : List Rule) → Room c i j rs → rulesFrom (withRules c i j rs) (length rs) i ≡ rs
-unfolding rulesFrom withRules
-rules-written c i j [] room = refl
-rules-written c i j (r ∷ rs) room =
-    let first : ruleAt (withRules c i j (r ∷ rs)) i ≡ r = rule-written (first-written c i j r rs room) in
-    let rest : rulesFrom (withRules c i j (r ∷ rs)) (length rs) (suc i) ≡ rs =
-    ap (rulesFrom (withRules c i j (r ∷ rs)) (length rs)) (sym (add-one i))
-    ∙ rules-written (withRule c i j r) (i + 1) (endFrom j r) rs (room-next c i j r rs room)
+-- the first of some rules that were written, and the one after them
+pub rows-written :
+    (c : List ℕ) (i j : ℕ) (rs ts : List Rule) → TableRoom c i j (rs ++ ts) → rowRules (withRules c i j (rs ++ ts)) (length rs) i ≡ rs
+unfolding rowRules withRules
+rows-written c i j [] ts room = refl
+rows-written c i j (r ∷ rs) ts room =
+    let first : rowRule (withRules c i j (r ∷ (rs ++ ts))) i ≡ r = row-written (first-written c i j r (rs ++ ts) room) in
+    let rest : rowRules (withRules c i j (r ∷ (rs ++ ts))) (length rs) (suc i) ≡ rs =
+    ap (rowRules (withRules c i j (r ∷ (rs ++ ts))) (length rs)) (sym (add-one i))
+    ∙ rows-written (withRule c i j r) (i + 1) (endFrom j r) rs ts (room-next c i j r (rs ++ ts) room)
     in
     cc
 
+pub next-written :
+    (c : List ℕ) (i j : ℕ) (rs : List Rule) (t : Rule) → TableRoom c i j (rs ++ (t ∷ []))
+    → rowRule (withRules c i j (rs ++ (t ∷ []))) (i + length rs) ≡ t
+unfolding withRules
+next-written c i j [] t room =
+    ap (rowRule (withRules c i j (t ∷ []))) (add-zero i) ∙ row-written (first-written c i j t [] room)
+next-written c i j (r ∷ rs) t room =
+    let e : i + suc (length rs) ≡ (i + 1) + length rs = omega arith in
+    ap (rowRule (withRules c i j (r ∷ (rs ++ (t ∷ []))))) e
+    ∙ next-written (withRule c i j r) (i + 1) (endFrom j r) rs t (room-next c i j r (rs ++ (t ∷ [])) room)
+
 -- a row of a table stands for one of the rules that were written
-pub record Stands (c : List ℕ) (k : ℕ) (rs : List Rule) : Type 0 where
+pub record RowStands (c : List ℕ) (k : ℕ) (rs : List Rule) : Type 0 where
   pub place : ℕ
   pub rule : Rule
   pub among : List·Memᴰ rule rs
-  pub written : Written c k place rule
+  pub written : RowWritten c k place rule
 
 pub each-stands :
-    (c : List ℕ) (i j : ℕ) (rs : List Rule) → Room c i j rs → (k : ℕ) → i ≤ k → k < i + length rs → Stands (withRules c i j rs) k rs
+    (c : List ℕ) (i j : ℕ) (rs : List Rule) → TableRoom c i j rs → (k : ℕ) → i ≤ k → k < i + length rs → RowStands (withRules c i j rs) k rs
 unfolding withRules
 each-stands c i j [] room k l h = absurd (omega arith)
 each-stands c i j (r ∷ rs) room k l h =
@@ -157,10 +170,10 @@ each-stands c i j (r ∷ rs) room k l h =
       place = j;
       rule = r;
       among = List·Memᴰ·head refl;
-      written = subst (λ (x : ℕ). Written (withRules c i j (r ∷ rs)) x j r) e (first-written c i j r rs room);
+      written = subst (λ (x : ℕ). RowWritten (withRules c i j (r ∷ rs)) x j r) e (first-written c i j r rs room);
     })
     (λ t. later (each-stands (withRule c i j r) (i + 1) (endFrom j r) rs (room-next c i j r rs room) k (omega arith) (omega arith)))
     (eq-or-lt-of-le l)
   where
-    later : Stands (withRules c i j (r ∷ rs)) k rs → Stands (withRules c i j (r ∷ rs)) k (r ∷ rs)
+    later : RowStands (withRules c i j (r ∷ rs)) k rs → RowStands (withRules c i j (r ∷ rs)) k (r ∷ rs)
     later s = record { place = s .place; rule = s .rule; among = List·Memᴰ·tail (s .among); written = s .written }

@@ -6,8 +6,8 @@ use native.Mathlib.Omega.{arith}
 use native.Mathlib.Nat.{add-zero, add-assoc}
 use lib.ListN.{length, getD, set, length-set}
 use lib.Seq.{getD-set-same, getD-set-other}
-use Rattle.table.specs.Words.{wordAt}
-use Rattle.decode.specs.Words.{withWords}
+use Rattle.table.specs.inner.Words.{wordAt}
+use Rattle.decode.specs.inner.Words.{withWords}
 
 pub word-same : (c : List ℕ) (i v : ℕ) → i < length c → wordAt (set c i v) i ≡ v
 unfolding wordAt

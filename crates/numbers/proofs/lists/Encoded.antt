@@ -2,7 +2,6 @@
 -- numbers; each stands in the run's relation to the one before it. Both are stated once, for any step that reads one number.
 use Prim.Native.Nat.{ℕ, zero, suc, _+_, _≤_}
 use mathlib.Core.Path.{_≡_, refl, sym, ap, subst, _∙_}
-use mathlib.Core.Bool.{Bool, true, false}
 use mathlib.Core.List.{List, _∷_, _++_, flatMap, append-assoc}
 use native.Mathlib.Omega.{arith}
 use lib.ListN.{length, drop, length-append}
@@ -10,20 +9,18 @@ use lib.Dec.{leb}
 use borrow.Author.Tests.{leb-false, lt-leb}
 use Rattle.rules.specs.Limits.{numberMost}
 use Rattle.rules.specs.Rule.{Within}
-use Rattle.rules.specs.Map.{inside}
-use Rattle.rules.proofs.Inside.{inside-within, inside-true}
-use Rattle.rules.proofs.Tests.{true-T}
-use Rattle.rules.specs.Number.{atomOf, pickAtom}
+use Rattle.rules.proofs.Inside.{atom-is, atom-made}
+use Rattle.rules.specs.Number.{checkedAtom}
 use Rattle.rules.specs.declared.Atom.{Atom}
-use Rattle.rules.specs.declared.AtomOr.the-variants.{Is}
-use Rattle.numbers.specs.Answer.{pick, readThen, atomThen, part}
+use Rattle.numbers.specs.Answer.{readThen, atomThen, span}
+use Rattle.rules.specs.Sum.{pick}
 use Rattle.numbers.specs.Number.{numberAt}
-use Rattle.numbers.specs.Lists.{atomAt, run, upTo, numbersFrom}
-use Rattle.numbers.specs.Encode.{numberBytes, numbersBytes, IsBytes, Linked, none, more, Above}
-use Rattle.numbers.specs.declared.Part.{Part}
+use Rattle.numbers.specs.Lists.{atomAt, inTurn, upTo, numbersFrom}
+use Rattle.numbers.specs.shown.Encode.{numberBytes, numbersBytes, IsBytes, Linked, none, more, Rises}
+use Rattle.numbers.specs.declared.Span.{Span}
 use Rattle.numbers.specs.declared.Read.{Read}
 use Rattle.numbers.specs.declared.Read.the-variants.{Got, Refused}
-use Rattle.numbers.proofs.Answer.{from-read, from-no, from-atom, not-got, same-part}
+use Rattle.numbers.proofs.Answer.{from-read, from-no, from-atom, not-got, same-span}
 use Rattle.numbers.proofs.Stands.{Stands, nothing, joined, stands-as}
 use Rattle.numbers.proofs.number.Most.{number-far}
 use Rattle.numbers.proofs.number.Encoded.{number-bytes, number-read, past}
@@ -32,7 +29,6 @@ use Rattle.numbers.proofs.lists.Numbers.{numbers-more}
 -- what a run that was read has read
 pub record Ran (Q : ℕ → ℕ → Type 0) (s : List ℕ) (left before at next : ℕ) : Type 0 where
   pub linked : Linked Q before (numbersFrom left s at)
-  pub count : length (numbersFrom left s at) ≡ left
   pub far : at + left ≤ next
   pub ends : at ≤ length s → next ≤ length s
   pub bytes : IsBytes s → Stands s at (numbersBytes (numbersFrom left s at)) next
@@ -41,14 +37,14 @@ module _
     (s : List ℕ)
     (Q : ℕ → ℕ → Type 0)
     (step : ℕ → ℕ → Read)
-    (sound : (before at : ℕ) (one : Part) → step before at ≡ Got one → (numberAt s at ≡ Got one) × Q before (one .value))
+    (sound : (before at : ℕ) (one : Span) → step before at ≡ Got one → (numberAt s at ≡ Got one) × Q before (one .value))
   where
     pub ran :
-        (left before : ℕ) (done p : Part) → run step left before done ≡ Got p → Ran Q s left before (done .next) (p .next)
-    unfolding run numbersFrom flatMap
+        (left before : ℕ) (done p : Span) → inTurn step left before done ≡ Got p → Ran Q s left before (done .next) (p .next)
+    unfolding inTurn numbersFrom flatMap
     ran zero before done p e =
-        let n : done .next ≡ p .next = ap (λ (q : Part). q .next) (same-part e) in
-        record { linked = none; count = refl; far = omega arith; ends = λ h. omega arith; bytes = λ is. nothing (done .next) (p .next) n }
+        let n : done .next ≡ p .next = ap (λ (q : Span). q .next) (same-span e) in
+        record { linked = none; far = omega arith; ends = λ h. omega arith; bytes = λ is. nothing (done .next) (p .next) n }
     ran (suc left) before done p e =
         let g = from-read Refused _ (step before (done .next)) not-got e in
         let one = g .0 in
@@ -57,7 +53,6 @@ module _
         let m = numbers-more s left (done .next) one (h .0) in
         record {
           linked = subst (λ (xs : List ℕ). Linked Q before xs) (sym m) (more (h .1) (r .linked));
-          count = ap length m ∙ ap suc (r .count);
           far = omega (arith, number-far s (done .next) one (h .0), r .far);
           ends = λ _. r .ends (number-far s (done .next) one (h .0) .1);
           bytes = λ is.
@@ -77,7 +72,7 @@ module _
     numbers-read none at q d = refl
     numbers-read (more {before = before} {x = x} {xs = xs} h l) at q d =
         let d′ : drop at s ≡ numberBytes x ++ (numbersBytes xs ++ q) = d ∙ append-assoc (numberBytes x) (numbersBytes xs) q in
-        numbers-more s (length xs) at (part x at (at + length (numberBytes x)))
+        numbers-more s (length xs) at (span x at (at + length (numberBytes x)))
         (number-read s at x (numbersBytes xs ++ q) (small before x h) d′)
         ∙ ap (λ (ys : List ℕ). x ∷ ys)
         (numbers-read l (at + length (numberBytes x)) q (past s (numberBytes x) (numbersBytes xs ++ q) at d′))
@@ -85,13 +80,13 @@ module _
     module _
         (step : ℕ → ℕ → Read)
         (complete :
-        (before at x : ℕ) → Q before x → numberAt s at ≡ Got (part x at (at + length (numberBytes x)))
-        → step before at ≡ Got (part x at (at + length (numberBytes x))))
+        (before at x : ℕ) → Q before x → numberAt s at ≡ Got (span x at (at + length (numberBytes x)))
+        → step before at ≡ Got (span x at (at + length (numberBytes x))))
       where
         pub written :
-            {before : ℕ} {xs : List ℕ} → Linked Q before xs → (done : Part) (q : List ℕ) → drop (done .next) s ≡ numbersBytes xs ++ q
-            → run step (length xs) before done ≡ Got (upTo done (done .next + length (numbersBytes xs)))
-        unfolding run flatMap readThen
+            {before : ℕ} {xs : List ℕ} → Linked Q before xs → (done : Span) (q : List ℕ) → drop (done .next) s ≡ numbersBytes xs ++ q
+            → inTurn step (length xs) before done ≡ Got (upTo done (done .next + length (numbersBytes xs)))
+        unfolding inTurn flatMap readThen
         written none done q d =
             let z : done .next ≡ done .next + 0 = omega arith in
             ap (λ (k : ℕ). Got (upTo done k)) z
@@ -101,46 +96,32 @@ module _
             let next : ℕ = done .next + length (numberBytes x) in
             let z : next + length (numbersBytes xs) ≡ done .next + length (numberBytes x ++ numbersBytes xs) =
             omega (arith, length-append (numberBytes x) (numbersBytes xs)) in
-            ap (λ (a : Read). readThen Refused a (λ one. run step (length xs) (one .value) (upTo done (one .next))))
+            ap (λ (a : Read). readThen Refused a (λ one. inTurn step (length xs) (one .value) (upTo done (one .next))))
             (complete before (done .next) x h (number-read s (done .next) x (numbersBytes xs ++ q) (small before x h) d′))
             ∙ written l (upTo done next) q (past s (numberBytes x) (numbersBytes xs ++ q) (done .next) d′)
             ∙ ap (λ (k : ℕ). Got (upTo done k)) z
 
 -- an atom is a number of 1 to n, above the one before it
-pub atom-is : (n a : ℕ) (atom : Atom) → atomOf n a ≡ Is atom → Within n a × (atom .number ≡ a)
-unfolding atomOf
-atom-is n a atom e = by (inside n a) refl e
-  where
-    by : (b : Bool) → inside n a ≡ b → pickAtom b a ≡ Is atom → Within n a × (atom .number ≡ a)
-    by true h z =
-        let w : _≡_ {A = Atom} (record { number = a }) atom = cc in
-        (inside-within n a (true-T h), sym (ap (λ (q : Atom). q .number) w))
-    by false h z = let w : _≡_ {A = ℕ} 0 1 = cc in absurd (omega arith)
-
-pub atom-there : (n a : ℕ) → Within n a → atomOf n a ≡ Is (record { number = a })
-unfolding atomOf
-atom-there n a w = ap (λ (b : Bool). pickAtom b a) (inside-true w)
-
 module _ (s : List ℕ) (n : ℕ) where
   pub atom-sound :
-      (before at : ℕ) (one : Part) → atomAt s n before at ≡ Got one → (numberAt s at ≡ Got one) × Above n before (one .value)
+      (before at : ℕ) (one : Span) → atomAt s n before at ≡ Got one → (numberAt s at ≡ Got one) × Rises n before (one .value)
   unfolding atomAt
   atom-sound before at one e =
       let g = from-read Refused _ (numberAt s at) not-got e in
-      let a = from-atom _ _ (atomOf n (g .0 .value)) (not-got _) (g .2) in
+      let a = from-atom _ _ (checkedAtom n (g .0 .value)) (not-got _) (g .2) in
       let l = from-no (leb (a .0 .number) before) _ _ (not-got _) (a .2) in
-      let v : g .0 ≡ one = same-part (l .1) in
-      let w : g .0 .value ≡ one .value = ap (λ (q : Part). q .value) v in
+      let v : g .0 ≡ one = same-span (l .1) in
+      let w : g .0 .value ≡ one .value = ap (λ (q : Span). q .value) v in
       let i = atom-is n (g .0 .value) (a .0) (a .1) in (
-        g .1 ∙ ap (λ (q : Part). Got q) v,
+        g .1 ∙ ap (λ (q : Span). Got q) v,
         record {
           within = subst (λ (x : ℕ). Within n x) w (i .0);
-          above = omega (arith, leb-false (a .0 .number) before (l .0), i .1);
+          above = omega (arith, leb-false (a .0 .number) before (l .0), ap (λ (x : Atom). x .number) (i .1));
         },
       )
 
   pub atom-complete :
-      (before at x : ℕ) → Above n before x → numberAt s at ≡ Got (part x at (at + length (numberBytes x)))
-      → atomAt s n before at ≡ Got (part x at (at + length (numberBytes x)))
+      (before at x : ℕ) → Rises n before x → numberAt s at ≡ Got (span x at (at + length (numberBytes x)))
+      → atomAt s n before at ≡ Got (span x at (at + length (numberBytes x)))
   unfolding atomAt readThen atomThen pick
-  atom-complete before at x h e = simp (e, atom-there n x (h .within), lt-leb x before (h .above))
+  atom-complete before at x h e = simp (e, atom-made n x (h .within), lt-leb x before (h .above))

@@ -1,51 +1,37 @@
--- The numbers from a place on, one by one: the first that stands there and those after it, or none where no number stands there.
-use Prim.Native.Nat.{ℕ, zero, suc, _≤_}
-use mathlib.Core.Path.{_≡_, refl, ap}
+-- The numbers from a place on, one by one: the first is the number that was read there, and those after it follow; and there are as
+-- many as are asked for.
+use Prim.Native.Nat.{ℕ, zero, suc, _+_, _-_, _≤_, _<_}
+use mathlib.Core.Path.{_≡_, refl, ap, _∙_, sym}
 use mathlib.Core.List.{List, [], _∷_}
 use native.Mathlib.Omega.{arith}
 use lib.ListN.{length}
-use Rattle.numbers.specs.Answer.{readThen}
-use Rattle.numbers.specs.Number.{numberAt}
+use Rattle.numbers.specs.Number.{numberAt, takenAt}
 use Rattle.numbers.specs.Lists.{numbersFrom}
-use Rattle.numbers.specs.declared.Refusal.{Refusal}
-use Rattle.numbers.specs.declared.Part.{Part}
-use Rattle.numbers.specs.declared.Read.{Read}
-use Rattle.numbers.specs.declared.Read.the-variants.{Got, Refused}
+use Rattle.numbers.specs.declared.Span.{Span}
+use Rattle.numbers.specs.declared.Read.the-variants.{Got}
+use Rattle.numbers.proofs.Answer.{one-left}
+use Rattle.numbers.proofs.number.Taken.{taken-read}
 
 pub numbers-more :
-    (s : List ℕ) (left at : ℕ) (p : Part) → numberAt s at ≡ Got p
+    (s : List ℕ) (left at : ℕ) (p : Span) → numberAt s at ≡ Got p
     → numbersFrom (suc left) s at ≡ p .value ∷ numbersFrom left s (p .next)
-unfolding numbersFrom readThen
-numbers-more s left at p e =
-    ap (λ (t : Read). readThen (λ why. []) t (λ number. number .value ∷ numbersFrom left s (number .next))) e
+unfolding numbersFrom
+numbers-more s left at p e = ap (λ (q : Span). q .value ∷ numbersFrom left s (q .next)) (taken-read s at p e)
 
-pub numbers-end :
-    (s : List ℕ) (left at : ℕ) (why : Refusal) → numberAt s at ≡ Refused why → numbersFrom (suc left) s at ≡ []
-unfolding numbersFrom readThen
-numbers-end s left at why e =
-    ap (λ (t : Read). readThen (λ why. []) t (λ number. number .value ∷ numbersFrom left s (number .next))) e
+pub numbers-count : (s : List ℕ) (left at : ℕ) → length (numbersFrom left s at) ≡ left
+unfolding numbersFrom
+numbers-count s zero at = refl
+numbers-count s (suc left) at = ap suc (numbers-count s left (takenAt s at .next))
 
-pub numbers-few : (s : List ℕ) (count at : ℕ) → length (numbersFrom count s at) ≤ count
-unfolding numbersFrom readThen
-numbers-few s zero at = omega arith
-numbers-few s (suc count) at = by (numberAt s at) (λ at. numbers-few s count at)
-  where
-    by :
-        (a : Read) → ((at : ℕ) → length (numbersFrom count s at) ≤ count)
-        → length (readThen (λ why. []) a (λ number. number .value ∷ numbersFrom count s (number .next))) ≤ suc count
-    by (Got p) few = omega (arith, few (p .next))
-    by (Refused why) few = omega arith
+-- the numbers that are left, of count, when k were passed
+pub numbers-over : (s : List ℕ) (count k at : ℕ) → count ≤ k → numbersFrom (count - k) s at ≡ []
+unfolding numbersFrom
+numbers-over s count k at h = let z : count - k ≡ 0 = omega arith in ap (λ (m : ℕ). numbersFrom m s at) z
 
--- where the numbers are all there, the next one is, and so are those after it
-pub numbers-next :
-    (s : List ℕ) (left at : ℕ) → length (numbersFrom (suc left) s at) ≡ suc left
-    → (p : Part) × (numberAt s at ≡ Got p) × (length (numbersFrom left s (p .next)) ≡ left)
-unfolding numbersFrom readThen
-numbers-next s left at e = by (numberAt s at) refl e
-  where
-    by :
-        (a : Read) → numberAt s at ≡ a
-        → length (readThen (λ why. []) a (λ number. number .value ∷ numbersFrom left s (number .next))) ≡ suc left
-        → (p : Part) × (numberAt s at ≡ Got p) × (length (numbersFrom left s (p .next)) ≡ left)
-    by (Got p) h z = (p, h, omega arith)
-    by (Refused why) h z = absurd (omega arith)
+pub numbers-turn :
+    (s : List ℕ) (count k at : ℕ) → k < count → {p : Span} → p ≡ takenAt s at
+    → numbersFrom (count - k) s at ≡ p .value ∷ numbersFrom (count - (k + 1)) s (p .next)
+unfolding numbersFrom
+numbers-turn s count k at h e =
+    ap (λ (m : ℕ). numbersFrom m s at) (one-left count k h)
+    ∙ ap (λ (q : Span). q .value ∷ numbersFrom (count - (k + 1)) s (q .next)) (sym e)

@@ -1,5 +1,6 @@
 -- A list that was read is strictly increasing, within 1 to n and as long as its count says, and has just the bytes that are written for
 -- it; and what is written for such a list is read as that list. Both put the count before the run of the atoms.
+use Rattle.numbers.proofs.lists.Numbers.{numbers-count}
 use Prim.Native.Nat.{ℕ, _+_, _≤_}
 use mathlib.Core.Path.{_≡_, sym, ap, ap₂, subst, _∙_}
 use mathlib.Core.List.{List, _++_, append-assoc}
@@ -7,11 +8,12 @@ use native.Mathlib.Omega.{arith}
 use lib.ListN.{length, drop, length-append}
 use borrow.Author.Tests.{le-ltb}
 use Rattle.rules.specs.Limits.{numberMost}
-use Rattle.numbers.specs.Answer.{pick, readThen, part}
+use Rattle.numbers.specs.Answer.{readThen, span}
+use Rattle.rules.specs.Sum.{pick}
 use Rattle.numbers.specs.Number.{numberAt, withinAt}
-use Rattle.numbers.specs.Lists.{atomAt, run, listAt, numbersFrom, numbersOf}
-use Rattle.numbers.specs.Encode.{numberBytes, numbersBytes, listBytes, IsBytes, Linked, none, more, Above, Rising}
-use Rattle.numbers.specs.declared.Part.{Part}
+use Rattle.numbers.specs.Lists.{atomAt, inTurn, listAt, numbersFrom, numbersOf}
+use Rattle.numbers.specs.shown.Encode.{numberBytes, numbersBytes, listBytes, IsBytes, Linked, none, more, Rises, Rising}
+use Rattle.numbers.specs.declared.Span.{Span}
 use Rattle.numbers.specs.declared.Read.{Read}
 use Rattle.numbers.specs.declared.Read.the-variants.{Got, Refused}
 use Rattle.numbers.proofs.Stands.{Stands, joined, stands-as}
@@ -20,7 +22,7 @@ use Rattle.numbers.proofs.number.Encoded.{number-bytes, number-read, pa
 use Rattle.numbers.proofs.lists.Most.{listed}
 use Rattle.numbers.proofs.lists.Encoded.{ran, numbers-read, written, atom-sound, atom-complete}
 
-pub record ListRan (s : List ℕ) (least n at : ℕ) (p : Part) : Type 0 where
+pub record ListRan (s : List ℕ) (least n at : ℕ) (p : Span) : Type 0 where
   pub rising : Rising n (numbersOf s p)
   pub count : length (numbersOf s p) ≡ p .value
   pub low : least ≤ p .value
@@ -29,15 +31,15 @@ pub record ListRan (s : List ℕ) (least n at : ℕ) (p : Part) : Type 0 where
   pub ends : p .next ≤ length s
   pub bytes : IsBytes s → Stands s at (listBytes (numbersOf s p)) (p .next)
 
-pub list-ran : (s : List ℕ) (least n at : ℕ) (p : Part) → listAt s least n at ≡ Got p → ListRan s least n at p
+pub list-ran : (s : List ℕ) (least n at : ℕ) (p : Span) → listAt s least n at ≡ Got p → ListRan s least n at p
 list-ran s least n at p e =
     let l = listed s least n at p e in
     let c = l .count in
     let v : c .value ≡ p .value = sym (l .value) in
-    let r = ran s (Above n) (atomAt s n) (atom-sound s n) (c .value) 0 (part (c .value) (c .next) (c .next)) p (l .ran) in
+    let r = ran s (Rises n) (atomAt s n) (atom-sound s n) (c .value) 0 (span (c .value) (c .next) (c .next)) p (l .ran) in
     let same : numbersFrom (c .value) s (c .next) ≡ numbersOf s p =
     ap₂ (λ (k f : ℕ). numbersFrom k s f) v (sym (l .first)) in
-    let size : length (numbersOf s p) ≡ p .value = sym (ap length same) ∙ r .count ∙ v in
+    let size : length (numbersOf s p) ≡ p .value = numbers-count s (p .value) (p .first) in
     record {
       rising = subst (λ (xs : List ℕ). Rising n xs) same (r .linked);
       count = size;
@@ -51,21 +53,21 @@ list-ran s least n at p e =
     }
 
 -- atoms that rise stay within n, so there are at most n of them
-pub rising-few : (n : ℕ) {before : ℕ} {xs : List ℕ} → Linked (Above n) before xs → before ≤ n → before + length xs ≤ n
+pub rising-few : (n : ℕ) {before : ℕ} {xs : List ℕ} → Linked (Rises n) before xs → before ≤ n → before + length xs ≤ n
 rising-few n none h = omega arith
 rising-few n (more {x = x} a l) h =
     let w = a .within .high in
     omega (arith, a .above, rising-few n l w)
 
 pub within-read :
-    (s : List ℕ) (least most at : ℕ) (p : Part) → numberAt s at ≡ Got p → least ≤ p .value → p .value ≤ most
+    (s : List ℕ) (least most at : ℕ) (p : Span) → numberAt s at ≡ Got p → least ≤ p .value → p .value ≤ most
     → withinAt s least most at ≡ Got p
 unfolding withinAt readThen pick
 within-read s least most at p e l h = simp (e, le-ltb (p .value) least l, le-ltb most (p .value) h)
 
 -- where a list is written: its count, the place of its first atom, and the place after it
-abbrev pub listPart : ℕ → List ℕ → Part
-listPart at xs = part (length xs) (at + length (numberBytes (length xs))) (at + length (listBytes xs))
+abbrev pub listSpan : ℕ → List ℕ → Span
+listSpan at xs = span (length xs) (at + length (numberBytes (length xs))) (at + length (listBytes xs))
 
 module _
     (s : List ℕ)
@@ -78,7 +80,7 @@ module _
     few : length xs ≤ n
     few = omega (arith, rising-few n rising (omega arith))
 
-    small : (before x : ℕ) → Above n before x → x ≤ numberMost
+    small : (before x : ℕ) → Rises n before x → x ≤ numberMost
     small before x a = omega (arith, a .within .high)
 
     split : drop at s ≡ numberBytes (length xs) ++ (numbersBytes xs ++ q)
@@ -87,20 +89,20 @@ module _
     atoms-at : drop (at + length (numberBytes (length xs))) s ≡ numbersBytes xs ++ q
     atoms-at = past s (numberBytes (length xs)) (numbersBytes xs ++ q) at split
 
-    pub list-numbers : numbersOf s (listPart at xs) ≡ xs
-    list-numbers = numbers-read s (Above n) small rising (at + length (numberBytes (length xs))) q atoms-at
+    pub list-numbers : numbersOf s (listSpan at xs) ≡ xs
+    list-numbers = numbers-read s (Rises n) small rising (at + length (numberBytes (length xs))) q atoms-at
 
-    pub list-read : least ≤ length xs → listAt s least n at ≡ Got (listPart at xs)
+    pub list-read : least ≤ length xs → listAt s least n at ≡ Got (listSpan at xs)
     unfolding listAt readThen
     list-read l =
         let first : ℕ = at + length (numberBytes (length xs)) in
-        let count : Part = part (length xs) at first in
+        let count : Span = span (length xs) at first in
         let z : first + length (numbersBytes xs) ≡ at + length (listBytes xs) =
         omega (arith, length-append (numberBytes (length xs)) (numbersBytes xs)) in
-        ap (λ (a : Read). readThen Refused a (λ count. run (atomAt s n) (count .value) 0 (part (count .value) (count .next) (count .next))))
+        ap (λ (a : Read). readThen Refused a (λ count. inTurn (atomAt s n) (count .value) 0 (span (count .value) (count .next) (count .next))))
         (within-read s least n at count (number-read s at (length xs) (numbersBytes xs ++ q) (omega (arith, few)) split) l few)
-        ∙ written s (Above n) small (atomAt s n) (atom-complete s n) rising (part (length xs) first first) q atoms-at
-        ∙ ap (λ (k : ℕ). Got (part (length xs) first k)) z
+        ∙ written s (Rises n) small (atomAt s n) (atom-complete s n) rising (span (length xs) first first) q atoms-at
+        ∙ ap (λ (k : ℕ). Got (span (length xs) first k)) z
 
     pub list-past : drop (at + length (listBytes xs)) s ≡ q
     list-past = past s (listBytes xs) q at d

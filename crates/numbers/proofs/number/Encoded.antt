@@ -3,7 +3,7 @@
 use Prim.Native.Nat.{ℕ, zero, suc, _+_, _*_, _/_, _^_, _%_, _≤_, _<_}
 use mathlib.Core.Path.{_≡_, refl, sym, ap, subst, _∙_}
 use mathlib.Core.Bool.{Bool, true, false, _&&_}
-use mathlib.Core.List.{List, [], _∷_, _++_}
+use mathlib.Core.List.{List, _∷_, _++_}
 use native.Mathlib.Omega.{arith}
 use native.Mathlib.Numerals.{add-one}
 use native.Mathlib.Nat.{pow-suc}
@@ -12,10 +12,11 @@ use lib.Seq.{drop-cons, drop-drop, getD-drop, drop-append-seam}
 use lib.Dec.{ltb, eqb}
 use borrow.Author.Tests.{lt-ltb, le-ltb, ltb-true, ltb-false, eqb-false, ne-eqb}
 use Rattle.rules.specs.Limits.{numberMost}
-use Rattle.numbers.specs.Answer.{pick, readThen, part}
+use Rattle.numbers.specs.Answer.{readThen, span}
+use Rattle.rules.specs.Sum.{pick}
 use Rattle.numbers.specs.Number.{groupsFrom, numberAt}
-use Rattle.numbers.specs.Encode.{groupsOf, numberBytes, IsBytes}
-use Rattle.numbers.specs.declared.Part.{Part}
+use Rattle.numbers.specs.shown.Encode.{groupsOf, numberBytes, IsBytes}
+use Rattle.numbers.specs.declared.Span.{Span}
 use Rattle.numbers.specs.declared.Read.the-variants.{Got}
 use Rattle.numbers.proofs.Answer.{not-got}
 use Rattle.numbers.proofs.Stands.{Stands}
@@ -23,21 +24,21 @@ use Rattle.numbers.proofs.number.Most.{Groups, last, more, groups}
 
 -- a group after the first is no needless one, so what it is a part of is 1 at least
 groups-some :
-    (s : List ℕ) (left first at : ℕ) (p : Part) → groupsFrom left s first at ≡ Got p → first < at → 1 ≤ p .value
+    (s : List ℕ) (left first at : ℕ) (p : Span) → groupsFrom left s first at ≡ Got p → first < at → 1 ≤ p .value
 unfolding groupsFrom
 groups-some s zero first at p e h = absurd (not-got _ e)
 groups-some s (suc left) first at p e h =
     by (groups s left first at p e) (λ high z. groups-some s left first (at + 1) high z (omega arith))
   where
     by :
-        Groups s left first at p → ((high : Part) → groupsFrom left s first (at + 1) ≡ Got high → 1 ≤ high .value)
+        Groups s left first at p → ((high : Span) → groupsFrom left s first (at + 1) ≡ Got high → 1 ≤ high .value)
         → 1 ≤ p .value
     by (last l b z w) some =
-        let v : getD s at 0 ≡ p .value = ap (λ (q : Part). q .value) w in
+        let v : getD s at 0 ≡ p .value = ap (λ (q : Span). q .value) w in
         let n : eqb (getD s at 0) 0 ≡ false = simp (lt-ltb first at h) at z in
         omega (arith, eqb-false (getD s at 0) 0 n)
     by (more l b high z w) some =
-        let v : getD s at 0 % 128 + 128 * high .value ≡ p .value = ap (λ (q : Part). q .value) w in
+        let v : getD s at 0 % 128 + 128 * high .value ≡ p .value = ap (λ (q : Span). q .value) w in
         omega (arith, some high z)
 
 -- the low group and the rest
@@ -49,7 +50,7 @@ module _ (low high : ℕ) (l : low < 128) where
   high-is = omega arith
 
 groups-bytes :
-    (s : List ℕ) → IsBytes s → (left first at : ℕ) (p : Part) → groupsFrom left s first at ≡ Got p → first ≤ at
+    (s : List ℕ) → IsBytes s → (left first at : ℕ) (p : Span) → groupsFrom left s first at ≡ Got p → first ≤ at
     → drop at s ≡ groupsOf left (p .value) ++ drop (p .next) s
 unfolding groupsFrom groupsOf pick
 groups-bytes s is zero first at p e h = absurd (not-got _ e)
@@ -58,11 +59,11 @@ groups-bytes s is (suc left) first at p e h =
   where
     by :
         Groups s left first at p
-        → ((high : Part) → groupsFrom left s first (at + 1) ≡ Got high
+        → ((high : Span) → groupsFrom left s first (at + 1) ≡ Got high
         → drop (at + 1) s ≡ groupsOf left (high .value) ++ drop (high .next) s)
         → drop at s ≡ groupsOf (suc left) (p .value) ++ drop (p .next) s
     by (last l b z w) rest =
-        subst (λ (q : Part). drop at s ≡ groupsOf (suc left) (q .value) ++ drop (q .next) s) w
+        subst (λ (q : Span). drop at s ≡ groupsOf (suc left) (q .value) ++ drop (q .next) s) w
         (simp (lt-ltb (getD s at 0) 128 b, add-one) (drop-cons s at 0 l))
     by (more l b high z w) rest =
         let v : ℕ = getD s at 0 % 128 + 128 * high .value in
@@ -71,28 +72,13 @@ groups-bytes s is (suc left) first at p e h =
         let low : 128 + v % 128 ≡ getD s at 0 =
         omega (arith, low-is (getD s at 0 % 128) (high .value) (omega arith), is .byte at) in
         let up : v / 128 ≡ high .value = high-is (getD s at 0 % 128) (high .value) (omega arith) in
-        subst (λ (q : Part). drop at s ≡ groupsOf (suc left) (q .value) ++ drop (q .next) s) w
+        subst (λ (q : Span). drop at s ≡ groupsOf (suc left) (q .value) ++ drop (q .next) s) w
         (simp (wide, low, up) (rw (← rest high z, add-one) (drop-cons s at 0 l)))
 
 pub number-bytes :
-    (s : List ℕ) → IsBytes s → (at : ℕ) (p : Part) → numberAt s at ≡ Got p → Stands s at (numberBytes (p .value)) (p .next)
+    (s : List ℕ) → IsBytes s → (at : ℕ) (p : Span) → numberAt s at ≡ Got p → Stands s at (numberBytes (p .value)) (p .next)
 unfolding numberAt numberBytes
 number-bytes s is at p e = record { is = groups-bytes s is 4 at at p e (omega arith) }
-
--- a number that was read begins where it was looked for
-groups-first : (s : List ℕ) (left first at : ℕ) (p : Part) → groupsFrom left s first at ≡ Got p → p .first ≡ first
-unfolding groupsFrom
-groups-first s zero first at p e = absurd (not-got _ e)
-groups-first s (suc left) first at p e =
-    by (groups s left first at p e) (λ high z. groups-first s left first (at + 1) high z)
-  where
-    by : Groups s left first at p → ((high : Part) → groupsFrom left s first (at + 1) ≡ Got high → high .first ≡ first) → p .first ≡ first
-    by (last l b z w) rest = sym (ap (λ (q : Part). q .first) w)
-    by (more l b high z w) rest = sym (ap (λ (q : Part). q .first) w) ∙ rest high z
-
-pub number-first : (s : List ℕ) (at : ℕ) (p : Part) → numberAt s at ≡ Got p → p .first ≡ at
-unfolding numberAt
-number-first s at p e = groups-first s 4 at at p e
 
 -- what is read at a place where a byte stands
 module _ (s : List ℕ) (at b : ℕ) (q : List ℕ) (d : drop at s ≡ b ∷ q) where
@@ -123,12 +109,12 @@ not-needless first at v some = by (ltb first at) refl
 regrouped : (v : ℕ) → (128 + v % 128) % 128 + 128 * (v / 128) ≡ v
 regrouped v = omega arith
 
-same-number : (first a b c d : ℕ) → a ≡ b → c ≡ d → Got (part a first c) ≡ Got (part b first d)
+same-number : (first a b c d : ℕ) → a ≡ b → c ≡ d → Got (span a first c) ≡ Got (span b first d)
 same-number first a b c d e f = cc
 
 read-last :
     (s : List ℕ) (left first at v : ℕ) (q : List ℕ) → v < 128 → (first < at → 1 ≤ v) → drop at s ≡ groupsOf (suc left) v ++ q
-    → groupsFrom (suc left) s first at ≡ Got (part v first (at + length (groupsOf (suc left) v)))
+    → groupsFrom (suc left) s first at ≡ Got (span v first (at + length (groupsOf (suc left) v)))
 unfolding groupsFrom groupsOf pick
 read-last s left first at v q small some d =
     let yes′ : ltb v 128 ≡ true = lt-ltb v 128 small in
@@ -138,8 +124,8 @@ read-last s left first at v q small some d =
 read-more :
     (s : List ℕ) (left first at v : ℕ) (q : List ℕ) → 128 ≤ v → drop at s ≡ groupsOf (suc left) v ++ q
     → (drop (at + 1) s ≡ groupsOf left (v / 128) ++ q
-    → groupsFrom left s first (at + 1) ≡ Got (part (v / 128) first (at + 1 + length (groupsOf left (v / 128)))))
-    → groupsFrom (suc left) s first at ≡ Got (part v first (at + length (groupsOf (suc left) v)))
+    → groupsFrom left s first (at + 1) ≡ Got (span (v / 128) first (at + 1 + length (groupsOf left (v / 128)))))
+    → groupsFrom (suc left) s first at ≡ Got (span v first (at + length (groupsOf (suc left) v)))
 unfolding groupsFrom groupsOf pick readThen
 read-more s left first at v q wide d rest =
     let no′ : ltb v 128 ≡ false = le-ltb v 128 wide in
@@ -156,7 +142,7 @@ read-more s left first at v q wide d rest =
 groups-read :
     (s : List ℕ) (left first at v : ℕ) (q : List ℕ) → v < 128 ^ suc left → first ≤ at → (first < at → 1 ≤ v)
     → drop at s ≡ groupsOf (suc left) v ++ q
-    → groupsFrom (suc left) s first at ≡ Got (part v first (at + length (groupsOf (suc left) v)))
+    → groupsFrom (suc left) s first at ≡ Got (span v first (at + length (groupsOf (suc left) v)))
 groups-read s zero first at v q m o some d = read-last s zero first at v q m some d
 groups-read s (suc left) first at v q m o some d =
     by (ltb v 128) refl (λ t e. groups-read s left first (at + 1) (v / 128) q t (omega arith) (λ z. e))
@@ -164,26 +150,13 @@ groups-read s (suc left) first at v q m o some d =
     by :
         (b : Bool) → ltb v 128 ≡ b
         → (v / 128 < 128 ^ suc left → 1 ≤ v / 128 → drop (at + 1) s ≡ groupsOf (suc left) (v / 128) ++ q
-        → groupsFrom (suc left) s first (at + 1) ≡ Got (part (v / 128) first (at + 1 + length (groupsOf (suc left) (v / 128)))))
-        → groupsFrom (suc (suc left)) s first at ≡ Got (part v first (at + length (groupsOf (suc (suc left)) v)))
+        → groupsFrom (suc left) s first (at + 1) ≡ Got (span (v / 128) first (at + 1 + length (groupsOf (suc left) (v / 128)))))
+        → groupsFrom (suc (suc left)) s first at ≡ Got (span v first (at + length (groupsOf (suc (suc left)) v)))
     by true b rest = read-last s (suc left) first at v q (ltb-true v 128 b) some d
     by false b rest = read-more s (suc left) first at v q (ltb-false v 128 b) d (rest (omega (arith, pow-suc 128 (suc left))) (omega (arith, ltb-false v 128 b)))
 
 pub number-read :
     (s : List ℕ) (at v : ℕ) (q : List ℕ) → v ≤ numberMost → drop at s ≡ numberBytes v ++ q
-    → numberAt s at ≡ Got (part v at (at + length (numberBytes v)))
+    → numberAt s at ≡ Got (span v at (at + length (numberBytes v)))
 unfolding numberAt numberBytes numberMost
 number-read s at v q m d = groups-read s 3 at at v q (omega arith) (omega arith) (λ z. omega arith) d
-
-groups-long : (left v : ℕ) → 1 ≤ length (groupsOf (suc left) v)
-unfolding groupsOf pick
-groups-long left v = by (ltb v 128)
-  where
-    by : (b : Bool) → 1 ≤ length (pick b (v ∷ []) ((128 + v % 128) ∷ groupsOf left (v / 128)))
-    by true = omega arith
-    by false = omega arith
-
--- a number takes a byte at least
-pub number-long : (v : ℕ) → 1 ≤ length (numberBytes v)
-unfolding numberBytes
-number-long v = groups-long 3 v

@@ -1,6 +1,7 @@
 -- The groups of a number, read low group first into a sum: what is left of the number counts by the scale that has been reached.
+use Rattle.numbers.specs.declared.Span.{Span}
 use Prim.Native.Nat.{ℕ, suc, _+_, _-_, _*_, _^_, _%_, _≤_, _<_}
-use mathlib.Core.Path.{_≡_, refl, ap, _∙_}
+use mathlib.Core.Path.{_≡_, refl, ap, _∙_, sym}
 use mathlib.Core.Bool.{true, false, _&&_}
 use mathlib.Core.List.{List}
 use native.Mathlib.Omega.{arith}
@@ -9,35 +10,43 @@ use native.Mathlib.Numerals.{add-one}
 use borrow.Author.Tests.{lt-ltb, le-ltb}
 use lib.ListN.{length, getD}
 use lib.Dec.{ltb, eqb, lit<}
-use Rattle.numbers.specs.Answer.{pick, readThen, part, refusal}
-use Rattle.numbers.specs.Number.{groupsFrom}
+use Rattle.numbers.specs.Answer.{readThen, span, refusal}
+use Rattle.rules.specs.Sum.{pick}
+use Rattle.numbers.specs.Number.{groupsFrom, higher, takenFrom}
 use Rattle.numbers.specs.declared.Read.{Read}
 use Rattle.numbers.specs.declared.Read.the-variants.{Got, Refused}
 use Rattle.numbers.proofs.Answer.{one-left}
 
 -- a number whose groups before these make up the sum
+abbrev pub raised : ℕ → ℕ → Span → Span
+raised sum scale p = span (sum + p .value * scale) (p .first) (p .next)
+
 unfoldable pub scaled : ℕ → ℕ → Read → Read
-scaled sum scale (Got p) = Got (part (sum + p .value * scale) (p .first) (p .next))
+scaled sum scale (Got p) = Got (raised sum scale p)
 scaled sum scale (Refused why) = Refused why
+
+pub raised-once : (p : Span) → raised 0 1 p ≡ p
+raised-once p = ap (λ (v : ℕ). span v (p .first) (p .next)) (omega arith)
 
 pub scaled-once : (a : Read) → scaled 0 1 a ≡ a
 unfolding scaled
-scaled-once (Got p) = ap (λ (v : ℕ). Got (part v (p .first) (p .next))) (omega arith)
+scaled-once (Got p) = ap (λ (q : Span). Got q) (raised-once p)
 scaled-once (Refused why) = refl
 
-regroup : (sum scale low v : ℕ) → sum + (low + 128 * v) * scale ≡ sum + low * scale + v * (scale * 128)
-regroup sum scale low v =
-    let e : (low + 128 * v) * scale ≡ low * scale + 128 * v * scale = add-mul low (128 * v) scale in
-    let f : 128 * v * scale ≡ v * (scale * 128) = mul-assoc 128 v scale ∙ mul-comm 128 (v * scale) ∙ mul-assoc v scale 128 in
-    omega arith
+raised-more : (sum scale low : ℕ) (p : Span) → raised sum scale (higher low p) ≡ raised (sum + low * scale) (scale * 128) p
+raised-more sum scale low p = ap (λ (v : ℕ). span v (p .first) (p .next)) (regroup (p .value))
+  where
+    regroup : (v : ℕ) → sum + (low + 128 * v) * scale ≡ sum + low * scale + v * (scale * 128)
+    regroup v =
+        let e : (low + 128 * v) * scale ≡ low * scale + 128 * v * scale = add-mul low (128 * v) scale in
+        let f : 128 * v * scale ≡ v * (scale * 128) = mul-assoc 128 v scale ∙ mul-comm 128 (v * scale) ∙ mul-assoc v scale 128 in
+        omega arith
 
 pub scaled-more :
     (sum scale low : ℕ) (a : Read)
-    → scaled sum scale (readThen Refused a (λ high. Got (part (low + 128 * high .value) (high .first) (high .next))))
-    ≡ scaled (sum + low * scale) (scale * 128) a
+    → scaled sum scale (readThen Refused a (λ high. Got (higher low high))) ≡ scaled (sum + low * scale) (scale * 128) a
 unfolding scaled readThen
-scaled-more sum scale low (Got p) =
-    ap (λ (v : ℕ). Got (part v (p .first) (p .next))) (regroup sum scale low (p .value))
+scaled-more sum scale low (Got p) = ap (λ (q : Span). Got q) (raised-more sum scale low p)
 scaled-more sum scale low (Refused why) = refl
 
 -- how far the scale and the sum can grow in four groups
@@ -73,7 +82,7 @@ module _ (s : List ℕ) (k first at sum scale : ℕ) where
     unfolding scaled groupsFrom pick
     needless b z = simp (opened h, lt-ltb _ _ l, ← g, lt-ltb _ _ b, z)
 
-    pub last : group < 128 → (ltb first at && eqb group 0) ≡ false → Got (part (sum + group * scale) first (at + 1)) ≡ here
+    pub last : group < 128 → (ltb first at && eqb group 0) ≡ false → Got (span (sum + group * scale) first (at + 1)) ≡ here
     unfolding scaled groupsFrom pick
     last b z = simp (opened h, lt-ltb _ _ l, ← g, lt-ltb _ _ b, z)
 
@@ -86,3 +95,36 @@ unfolding here scaled groupsFrom
 spent s k first at sum scale h =
     let e : 0 ≡ 4 - k = omega arith in
     ap (λ (left : ℕ). scaled sum scale (groupsFrom left s first at)) e
+
+-- the same of a number that is taken without a test
+raised-none : (sum scale first at : ℕ) → span sum first at ≡ raised sum scale (span 0 first at)
+raised-none sum scale first at = ap (λ (v : ℕ). span v first at) (omega arith)
+
+module _ (s : List ℕ) (k first at sum scale : ℕ) where
+  unfoldable pub taken : Span
+  taken = raised sum scale (takenFrom (4 - k) s first at)
+
+  taken-opened : k < 4 → taken ≡ raised sum scale (takenFrom (suc (4 - (k + 1))) s first at)
+  unfolding taken
+  taken-opened h = ap (λ (left : ℕ). raised sum scale (takenFrom left s first at)) (one-left 4 k h)
+
+  pub taken-ended : k < 4 → length s ≤ at → span sum first at ≡ taken
+  unfolding takenFrom pick
+  taken-ended h e = simp (taken-opened h, le-ltb _ _ e) (raised-none sum scale first at)
+
+  module _ (h : k < 4) (l : at < length s) (group : ℕ) (g : group ≡ getD s at 0) where
+    pub taken-last : group < 128 → span (sum + group * scale) first (at + 1) ≡ taken
+    unfolding takenFrom pick
+    taken-last b = simp (taken-opened h, lt-ltb _ _ l, ← g, lt-ltb _ _ b)
+
+    pub taken-more : 128 ≤ group → raised (sum + group % 128 * scale) (scale * 128) (takenFrom (4 - (k + 1)) s first (at + 1)) ≡ taken
+    unfolding takenFrom pick
+    taken-more b =
+        simp (taken-opened h, lt-ltb _ _ l, ← g, le-ltb _ _ b)
+        (sym (raised-more sum scale (group % 128) (takenFrom (4 - (k + 1)) s first (at + 1))))
+
+pub taken-spent : (s : List ℕ) (k first at sum scale : ℕ) → 4 ≤ k → span sum first at ≡ taken s k first at sum scale
+unfolding taken takenFrom
+taken-spent s k first at sum scale h =
+    let e : 0 ≡ 4 - k = omega arith in
+    raised-none sum scale first at ∙ ap (λ (left : ℕ). raised sum scale (takenFrom left s first at)) e

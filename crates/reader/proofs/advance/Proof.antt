@@ -46,22 +46,22 @@ use denote.Triple.Clauses.{ensured, lasts}
 use Rattle.reader.specs.Place.{placeAfter}
 use Rattle.reader.specs.Reader.{nextOf, movedTo}
 use Rattle.reader.specs.declared.Reader.{Reader}
-use Rattle.reader.specs.declared.place.Place.{Place}
-use Rattle.reader.specs.declared.place.Step.{Step}
+use Rattle.reader.specs.declared.Place.{Place}
+use Rattle.reader.specs.declared.NextRule.{NextRule}
 use Rattle.reader.proofs.Reader as T
 use Rattle.reader.proofs.Reader.Laws as T′
-use Rattle.reader.proofs.place.Place as P
-use Rattle.reader.proofs.place.Place.Laws as P′
-use Rattle.reader.proofs.place.Step as S
-use Rattle.reader.proofs.place.Step.Laws as S′
-use Rattle.reader.proofs.place.step_at as step
-use Rattle.reader.proofs.place.step_at.Symbol as step-def
-use Rattle.reader.proofs.place.step_at.Symbol.{name as #reader·step-at}
-use Rattle.reader.proofs.place.step_at.Met as step-thm
-use Rattle.reader.proofs.place.place_after as after
-use Rattle.reader.proofs.place.place_after.Symbol as after-def
-use Rattle.reader.proofs.place.place_after.Symbol.{name as #reader·place-after}
-use Rattle.reader.proofs.place.place_after.Met as after-thm
+use Rattle.reader.proofs.Place as P
+use Rattle.reader.proofs.Place.Laws as P′
+use Rattle.reader.proofs.NextRule as S
+use Rattle.reader.proofs.NextRule.Laws as S′
+use Rattle.reader.proofs.steps.step_at as step
+use Rattle.reader.proofs.steps.step_at.Symbol as step-def
+use Rattle.reader.proofs.steps.step_at.Symbol.{name as #reader·step-at}
+use Rattle.reader.proofs.steps.step_at.Met as step-thm
+use Rattle.reader.proofs.steps.place_after as after
+use Rattle.reader.proofs.steps.place_after.Symbol as after-def
+use Rattle.reader.proofs.steps.place_after.Symbol.{name as #reader·place-after}
+use Rattle.reader.proofs.steps.place_after.Met as after-thm
 use Rattle.reader.proofs.advance.Key.{name as #reader·advance}
 use Rattle.reader.proofs.advance as advance
 use Rattle.reader.proofs.advance.Statement as stated
@@ -140,27 +140,27 @@ module _ {M : Type 1} (𝓤 : URA M) (H : Heap 𝓤) (A : Atoms 𝓤) (W : Given
       -- [what the fields own together; what the struct owns; the token]
       move ! (2 ∷ 0 ∷ []) $ use2 W (raw (StepAt 𝓤 H A at-mem run .pre to-step)) asked $ frame ! $ done !)
 
-  step-said : (r : Step) → ent 𝓤 (ensured 𝓤 H A step.ended (step.clauses 𝓤 H A at-mem run) (κ′, tt) (h .sheet, (h .place, tt)) tt r) (fact 𝓤 (r ≡ nextOf h))
+  step-said : (r : NextRule) → ent 𝓤 (ensured 𝓤 H A step.ended (step.clauses 𝓤 H A at-mem run) (κ′, tt) (h .sheet, (h .place, tt)) tt r) (fact 𝓤 (r ≡ nextOf h))
   step-said r = exE 𝓤 _ (λ ws. snd∗ 𝓤 (sem 𝓤 H A (lasts step.ended (κ′, tt) (h .sheet, (h .place, tt)) ws)) (fact 𝓤 (r ≡ nextOf h)))
 
   -- the call of `place_after`, at the step r with the machine value u
-  abbrev to-after : Step → Val → After 𝓤 H A at-mem run .Ghost
+  abbrev to-after : NextRule → Val → After 𝓤 H A at-mem run .Ghost
   to-after r u = ((tt, tt, tt, (r, (h .place, tt)), (u ∷ [], (w (h .place) ∷ [], tt))), tt)
 
-  goes-after : (r : Step) (u : Val) → Is S.the-row r (u ∷ []) → Is P.the-row (h .place) (w (h .place) ∷ []) → ent 𝓤 (emp 𝓤) (After 𝓤 H A at-mem run .pre (to-after r u))
+  goes-after : (r : NextRule) (u : Val) → Is S.the-row r (u ∷ []) → Is P.the-row (h .place) (w (h .place) ∷ []) → ent 𝓤 (emp 𝓤) (After 𝓤 H A at-mem run .pre (to-after r u))
   goes-after r u is is′ =
       qed W (‵ ftrue ∷ []) ∵ nothing ! $ owned ! P.the-row (Is P.the-row) (EL.makes P.the-type P′.the-plain 𝓤 H A) (h .place) _ is′ $ fjoin ! $
       owned ! S.the-row (Is S.the-row) (EL.makes S.the-type S′.the-plain 𝓤 H A) r _ is $ fjoin ! $ move ! (1 ∷ 0 ∷ []) $ join ! $ frame ! $ done !
 
-  after-said : (r : Step) (y : Place) → ent 𝓤 (ensured 𝓤 H A after.ended (after.clauses 𝓤 H A at-mem run) tt (r, (h .place, tt)) tt y) (fact 𝓤 (y ≡ placeAfter r (h .place)))
+  after-said : (r : NextRule) (y : Place) → ent 𝓤 (ensured 𝓤 H A after.ended (after.clauses 𝓤 H A at-mem run) tt (r, (h .place, tt)) tt y) (fact 𝓤 (y ≡ placeAfter r (h .place)))
   after-said r y = exE 𝓤 _ (λ ws. snd∗ 𝓤 (sem 𝓤 H A (lasts after.ended tt (r, (h .place, tt)) ws)) (fact 𝓤 (y ≡ placeAfter r (h .place))))
 
-  exits : (r : Step) (u : Val) (y : Place) → r ≡ nextOf h → y ≡ placeAfter r (h .place)
+  exits : (r : NextRule) (u : Val) (y : Place) → r ≡ nextOf h → y ≡ placeAfter r (h .place)
       → ent 𝓤 (⋆ 𝓤 H A (‵ (fobs γ (B κ′ .coded .code (movedTo h y))) ∷ ‵ (fbor κ (Body (mem (B κ′)) b o γ)) ∷ ‵ (flft κ q) ∷ ‵ (S.the-row .own r (u ∷ [])) ∷ (‵ (flft κ′ q′) ⊛ ‵ ftrue) ∷ [])) (Post u)
   exits r u y e e′ =
       qed W (‵ (fobs γ (B κ′ .coded .code (movedTo h y))) ∷ ‵ (fbor κ (Body (mem (B κ′)) b o γ)) ∷ ‵ (flft κ q) ∷ ‵ (S.the-row .own r (u ∷ [])) ∷ (‵ (flft κ′ q′) ⊛ ‵ ftrue) ∷ []) ∵
       suffices ! _ (ends-at 𝓤 H A advance.ended stayed (advance.clauses 𝓤 H A at-mem run) W (((κ, (κ′, tt)), (q, (q′, tt)), bounds, x, at), tt) u r (movedTo h y, tt) (tt, tt)) $
-      says ! (e, ap (movedTo h) (e′ ∙ ap (λ (t : Step). placeAfter t (h .place)) e)) $
+      says ! (e, ap (movedTo h) (e′ ∙ ap (λ (t : NextRule). placeAfter t (h .place)) e)) $
       move ! (2 ∷ 4 ∷ []) $ join ! $ frame ! $ feqI ! (List Val) (vptr b o ∷ []) (vptr b o ∷ []) refl $ fjoin3 ! $ nothing ! $ move ! (1 ∷ 0 ∷ []) $ fjoin ! $ frame ! $ done !
 
   module _ (C : Calls 𝓤 H) (Λ : Loops 𝓤 H) (fm : FmC 𝓤 H (W .laws) C) (known-step : Triple 𝓤 (C #reader·step-at) (StepAt 𝓤 H A at-mem run)) (known-after : Triple 𝓤 (C #reader·place-after) (After 𝓤 H A at-mem run)) where
@@ -178,7 +178,7 @@ module _ {M : Type 1} (𝓤 : URA M) (H : Heap 𝓤) (A : Atoms 𝓤) (W : Given
         assigns ! (of-opd ! (load ! (from ! (hop ! (look ! 15 refl) (fld ! refl (stop !)))) (look-in ! 0 (sub ! 0 refl (whole !))))) (from ! (stop !)) (init ! 7 refl (shr-slice-lawful 𝓤 H A W (named 1) κ′ u8 .typed (h .sheet) _ (LL.owed D L h _ p .0) .0)) $
         move ! (1 ∷ 5 ∷ []) $ use2 W (raw (StepAt 𝓤 H A at-mem run .pre to-step) ⊛ ‵ Own) apart $ split ! $
         calls-at ! fm (StepAt 𝓤 H A at-mem run) known-step to-step (and-then ! (load ! (from ! (stop !)) (look ! 7 refl)) (and-then ! (load ! (from ! (stop !)) (look ! 13 refl)) (no-more !))) (λ u.
-        use1 W (later (some (λ (r : Step). ((‵ (flft κ′ q′) ⊛ ‵ ftrue) ⊛ ‵ (S.the-row .own r (u ∷ []))) ⊛ raw (ensured 𝓤 H A step.ended (step.clauses 𝓤 H A at-mem run) (κ′, tt) (h .sheet, (h .place, tt)) tt r)))) (id⊢ 𝓤 _) $ await ! tt $ pick ! (λ r.
+        use1 W (later (some (λ (r : NextRule). ((‵ (flft κ′ q′) ⊛ ‵ ftrue) ⊛ ‵ (S.the-row .own r (u ∷ []))) ⊛ raw (ensured 𝓤 H A step.ended (step.clauses 𝓤 H A at-mem run) (κ′, tt) (h .sheet, (h .place, tt)) tt r)))) (id⊢ 𝓤 _) $ await ! tt $ pick ! (λ r.
         split ! $ move ! (1 ∷ []) $ use1 W (raw (fact 𝓤 (r ≡ nextOf h))) (step-said r) $ heard ! (r ≡ nextOf h) (λ e. split ! $ move ! (1 ∷ []) $
         -- [the step; 'a's token; what the Reader owns; the struct's cell; the open borrow; obs; auth; true; _5; …; _4; …; _3; …; _2; …; _1; …; room for _0; …]
         peeks ! S.the-row (Is S.the-row) (shows 𝓤 H A S.the-row) r (u ∷ []) (λ is.
@@ -221,5 +221,5 @@ advance-spec 𝓤 H 𝓜 𝓖 𝓡 =
     entered 𝓤 H (tripleOf 𝓤 H (𝓖 .A) advance.signature (advance.spec 𝓤 H (𝓖 .A) (𝓜 .mem) (𝓡 .run)))
     (tables 𝓤 H 𝓜 𝓡 code.env .C) (tables 𝓤 H 𝓜 𝓡 code.env .Λ) #reader·advance code.function (code.unfolded 𝓤 H 𝓜 𝓡)
     (advance-meets 𝓤 H (𝓖 .A) (givenOf 𝓤 H 𝓜 𝓖) (𝓜 .mem) (𝓡 .run) (tablesOf 𝓤 H 𝓜 (tables 𝓤 H 𝓜 𝓡 code.env))
-    (cited 𝓤 H (StepAt 𝓤 H (𝓖 .A) (𝓜 .mem) (𝓡 .run)) 𝓜 𝓡 code.env #reader·step-at step-def.routine code.calls-reader·place·step-at (step-thm.met 𝓤 H 𝓜 𝓖 𝓡))
-    (cited 𝓤 H (After 𝓤 H (𝓖 .A) (𝓜 .mem) (𝓡 .run)) 𝓜 𝓡 code.env #reader·place-after after-def.routine code.calls-reader·place·place-after (after-thm.met 𝓤 H 𝓜 𝓖 𝓡)))
+    (cited 𝓤 H (StepAt 𝓤 H (𝓖 .A) (𝓜 .mem) (𝓡 .run)) 𝓜 𝓡 code.env #reader·step-at step-def.routine code.calls-reader·steps·step-at (step-thm.met 𝓤 H 𝓜 𝓖 𝓡))
+    (cited 𝓤 H (After 𝓤 H (𝓖 .A) (𝓜 .mem) (𝓡 .run)) 𝓜 𝓡 code.env #reader·place-after after-def.routine code.calls-reader·steps·place-after (after-thm.met 𝓤 H 𝓜 𝓖 𝓡)))

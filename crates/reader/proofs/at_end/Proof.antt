@@ -39,12 +39,12 @@ use Rattle.reader.specs.Reader.{isEnd}
 use Rattle.reader.specs.declared.Reader.{Reader}
 use Rattle.reader.proofs.Reader as T
 use Rattle.reader.proofs.Reader.Laws as T′
-use Rattle.reader.proofs.place.Place as P
-use Rattle.reader.proofs.place.Place.Laws as P′
-use Rattle.reader.proofs.place.past_last as past-last
-use Rattle.reader.proofs.place.past_last.Symbol as past-last-def
-use Rattle.reader.proofs.place.past_last.Symbol.{name as #reader·past-last}
-use Rattle.reader.proofs.place.past_last.Met as past-last-thm
+use Rattle.reader.proofs.Place as P
+use Rattle.reader.proofs.Place.Laws as P′
+use Rattle.reader.proofs.steps.past_last as past-last
+use Rattle.reader.proofs.steps.past_last.Symbol as past-last-def
+use Rattle.reader.proofs.steps.past_last.Symbol.{name as #reader·past-last}
+use Rattle.reader.proofs.steps.past_last.Met as past-last-thm
 use Rattle.reader.proofs.at_end.Key.{name as #reader·at-end}
 use Rattle.reader.proofs.at_end as at-end
 use Rattle.reader.proofs.at_end.Statement as stated
@@ -132,4 +132,4 @@ at-end-spec 𝓤 H 𝓜 𝓖 𝓡 =
     entered 𝓤 H (tripleOf 𝓤 H (𝓖 .A) at-end.signature (at-end.spec 𝓤 H (𝓖 .A) (𝓜 .mem) (𝓡 .run)))
     (tables 𝓤 H 𝓜 𝓡 code.env .C) (tables 𝓤 H 𝓜 𝓡 code.env .Λ) #reader·at-end code.function (code.unfolded 𝓤 H 𝓜 𝓡)
     (at-end-meets 𝓤 H (𝓖 .A) (givenOf 𝓤 H 𝓜 𝓖) (𝓜 .mem) (𝓡 .run) (tablesOf 𝓤 H 𝓜 (tables 𝓤 H 𝓜 𝓡 code.env))
-    (cited 𝓤 H (PastLast 𝓤 H (𝓖 .A) (𝓜 .mem) (𝓡 .run)) 𝓜 𝓡 code.env #reader·past-last past-last-def.routine code.calls-reader·place·past-last (past-last-thm.met 𝓤 H 𝓜 𝓖 𝓡)))
+    (cited 𝓤 H (PastLast 𝓤 H (𝓖 .A) (𝓜 .mem) (𝓡 .run)) 𝓜 𝓡 code.env #reader·past-last past-last-def.routine code.calls-reader·steps·past-last (past-last-thm.met 𝓤 H 𝓜 𝓖 𝓡)))

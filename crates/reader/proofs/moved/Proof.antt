@@ -34,11 +34,11 @@ use denote.Triple.Table.{entered}
 use denote.Triple.Walked.{says, Stays, stay-none, walkOf, goes-none, Walks, ends-at, walked, walk-meets}
 use denote.Exit.{yes}
 use Rattle.reader.specs.declared.Reader.{Reader}
-use Rattle.reader.specs.declared.place.Place.{Place}
+use Rattle.reader.specs.declared.Place.{Place}
 use Rattle.reader.proofs.Reader as T
 use Rattle.reader.proofs.Reader.Laws as T′
-use Rattle.reader.proofs.place.Place as P
-use Rattle.reader.proofs.place.Place.Laws as P′
+use Rattle.reader.proofs.Place as P
+use Rattle.reader.proofs.Place.Laws as P′
 use Rattle.reader.proofs.moved.Key.{name as #reader·moved}
 use Rattle.reader.proofs.moved as moved
 use Rattle.reader.proofs.moved.Statement as stated

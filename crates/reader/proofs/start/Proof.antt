@@ -41,15 +41,15 @@ use denote.Exit.{yes}
 use denote.Triple.Clauses.{ensured, lasts}
 use Rattle.reader.specs.Place.{firstPlace}
 use Rattle.reader.specs.declared.Reader.{Reader}
-use Rattle.reader.specs.declared.place.Place.{Place}
+use Rattle.reader.specs.declared.Place.{Place}
 use Rattle.reader.proofs.Reader as T
 use Rattle.reader.proofs.Reader.Laws as T′
-use Rattle.reader.proofs.place.Place as P
-use Rattle.reader.proofs.place.Place.Laws as P′
-use Rattle.reader.proofs.place.first_place as first
-use Rattle.reader.proofs.place.first_place.Symbol as first-def
-use Rattle.reader.proofs.place.first_place.Symbol.{name as #reader·first-place}
-use Rattle.reader.proofs.place.first_place.Met as first-thm
+use Rattle.reader.proofs.Place as P
+use Rattle.reader.proofs.Place.Laws as P′
+use Rattle.reader.proofs.steps.first_place as first
+use Rattle.reader.proofs.steps.first_place.Symbol as first-def
+use Rattle.reader.proofs.steps.first_place.Symbol.{name as #reader·first-place}
+use Rattle.reader.proofs.steps.first_place.Met as first-thm
 use Rattle.reader.proofs.start.Key.{name as #reader·start}
 use Rattle.reader.proofs.start as start
 use Rattle.reader.proofs.start.Statement as stated
@@ -145,4 +145,4 @@ start-spec 𝓤 H 𝓜 𝓖 𝓡 =
     entered 𝓤 H (tripleOf 𝓤 H (𝓖 .A) start.signature (start.spec 𝓤 H (𝓖 .A) (𝓜 .mem) (𝓡 .run)))
     (tables 𝓤 H 𝓜 𝓡 code.env .C) (tables 𝓤 H 𝓜 𝓡 code.env .Λ) #reader·start code.function (code.unfolded 𝓤 H 𝓜 𝓡)
     (start-meets 𝓤 H (𝓖 .A) (givenOf 𝓤 H 𝓜 𝓖) (𝓜 .mem) (𝓡 .run) (tablesOf 𝓤 H 𝓜 (tables 𝓤 H 𝓜 𝓡 code.env))
-    (cited 𝓤 H (First 𝓤 H (𝓖 .A) (𝓜 .mem) (𝓡 .run)) 𝓜 𝓡 code.env #reader·first-place first-def.routine code.calls-reader·place·first-place (first-thm.met 𝓤 H 𝓜 𝓖 𝓡)))
+    (cited 𝓤 H (First 𝓤 H (𝓖 .A) (𝓜 .mem) (𝓡 .run)) 𝓜 𝓡 code.env #reader·first-place first-def.routine code.calls-reader·steps·first-place (first-thm.met 𝓤 H 𝓜 𝓖 𝓡)))

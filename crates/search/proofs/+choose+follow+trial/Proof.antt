@@ -3,7 +3,7 @@
 use Prim.Native.Nat.{ℕ, _+_, _*_, _<_}
 use native.Mathlib.Omega.{arith}
 use borrow.Author.Needs.{needs}
-use Rattle.weigh.specs.Step.{undecided}
+use Rattle.rules.specs.Map.{undecided}
 use Rattle.search.proofs.Branches.{decided-all, next-stands, followed, clashed, closed-guess, no-guess, answered-in, answered-out}
 use borrow.Fn.Kinds.{In}
 use borrow.Fn.PlainCycle.{Measures, is, falls, and}
@@ -17,7 +17,7 @@ use Rattle.search.proofs.trial.Reads as trial
 use Rattle.search.proofs.trial.Kinds as trial-kinds
 use Rattle.search.proofs.+choose+follow+trial.Lts-trial as trial-lts
 use Rattle.search.proofs.guess.Reads as guess-reads
-use Rattle.forcing.proofs.close.lowest.Reads as lowest-reads
+use Rattle.forcing.proofs.lowest.Reads as lowest-reads
 use Rattle.search.proofs.+choose+follow+trial.{statement}
 use Rattle.search.proofs.+choose+follow+trial.Tie.{close}
 

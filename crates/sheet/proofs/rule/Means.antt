@@ -6,12 +6,12 @@ use mathlib.Core.Bool.{Bool, true, false}
 use mathlib.Core.List.{List, [], _∷_, _++_}
 use native.Mathlib.Omega.{arith}
 use lib.ListN.{length, length-map}
-use Rattle.rules.specs.Rule.{Rule, one}
+use Rattle.rules.specs.Rule.{Rule, basic, constraint, choice, weight, kindNumber, one}
 use Rattle.rules.specs.declared.Atom.{Atom}
 use Rattle.numbers.specs.Number.{numberAt}
 use Rattle.numbers.specs.Lists.{listAt, numbersOf}
-use Rattle.numbers.specs.Encode.{numberBytes, numbersBytes, listBytes, IsBytes, Rising}
-use Rattle.numbers.specs.declared.Part.{Part}
+use Rattle.numbers.specs.shown.Encode.{numberBytes, numbersBytes, listBytes, IsBytes, Rising}
+use Rattle.numbers.specs.declared.Span.{Span}
 use Rattle.numbers.specs.declared.Read.the-variants.{Got}
 use Rattle.numbers.proofs.Answer.{from-read}
 use Rattle.numbers.proofs.Stands.{Stands, joined, stands-as}
@@ -19,37 +19,35 @@ use Rattle.numbers.proofs.number.Most.{number-most, number-far}
 use Rattle.numbers.proofs.number.Encoded.{number-bytes}
 use Rattle.numbers.proofs.lists.Whole.{list-ran}
 use Rattle.sheet.specs.Rule.{basicAt, boundedAt, choiceAt, ruleAt}
-use Rattle.sheet.specs.Items.{headsOf, headCount}
-use Rattle.sheet.specs.Meaning.{weigh, ruleBy, ruleMeant}
-use Rattle.sheet.specs.Encode.{ruleBytes, Proper, isBasic, isConstraint, isChoice, isWeight, ruleSize, Light}
-use Rattle.sheet.specs.declared.rule.Kind.{Kind}
-use Rattle.sheet.specs.declared.rule.Kind.the-variants.{Basic, Constraint, Choice, Weight}
-use Rattle.sheet.specs.declared.rule.Rule.{Rule as ReadRule}
-use Rattle.sheet.specs.declared.rule.RuleRead.the-variants.{Got as GotRule, Refused as RefusedRule}
+use Rattle.sheet.specs.Meaning.{paired, ruleBy, ruleMeant}
+use Rattle.sheet.specs.shown.Encode.{ruleBytes, ProperRule, isBasic, isConstraint, isChoice, isWeight, ruleSize, Light}
+use Rattle.sheet.specs.declared.SheetKind.{SheetKind}
+use Rattle.sheet.specs.declared.SheetKind.the-variants.{Basic, Constraint, Choice, Weight}
+use Rattle.sheet.specs.declared.SheetRule.{SheetRule}
+use Rattle.sheet.specs.declared.RuleRead.the-variants.{Got as GotRule, Refused as RefusedRule}
 use Rattle.sheet.proofs.body.Ran.{BodyRan, body-ran, body-bytes, plain-bytes, body-far, not-rule}
 use Rattle.sheet.proofs.rule.Apart.{ones-lists, weigh-atoms, weigh-weights, weigh-length}
-use Rattle.sheet.proofs.rule.Ran.{Cases, basicCase, boundedCase, choiceCase, cases, boundedNumber, HeadRan, head-ran}
+use Rattle.sheet.proofs.rule.Ran.{Cases, basicCase, boundedCase, choiceCase, cases, boundedKind, HeadRan, head-ran}
 
 -- a rule that was read, and what it says
-pub record RuleRan (s : List ℕ) (n at : ℕ) (r : ReadRule) (m : Rule) : Type 0 where
-  pub proper : Proper n m
-  pub heads : length (headsOf s (r .kind)) ≡ headCount (r .kind)
+pub record RuleRan (s : List ℕ) (n at : ℕ) (r : SheetRule) (m : Rule) : Type 0 where
+  pub proper : ProperRule n m
   pub place : ℕ
   pub body : BodyRan s n (r .kind) place r
   pub need : m .need ≡ r .need
   pub far : at + 3 + ruleSize m ≤ r .next
   pub bytes : IsBytes s → Stands s at (ruleBytes m) (r .next)
 
-module _ (s : List ℕ) (n at : ℕ) (r : ReadRule) (k : Part) (number : numberAt s at ≡ Got k) where
+module _ (s : List ℕ) (n at : ℕ) (r : SheetRule) (k : Span) (number : numberAt s at ≡ Got k) where
   kind-bytes : (v : ℕ) → k .value ≡ v → IsBytes s → Stands s at (numberBytes v) (k .next)
   kind-bytes v e is = stands-as (ap (λ (x : ℕ). numberBytes x) e) (number-bytes s is at k number)
 
   -- what it says, by the kind that it was found to be
-  by-kind : (kind : Kind) → r .kind ≡ kind → RuleRan s n at r (ruleBy s kind (r .positive) (r .negated)) → RuleRan s n at r (ruleMeant s r)
+  by-kind : (kind : SheetKind) → r .kind ≡ kind → RuleRan s n at r (ruleBy s kind (r .positive) (r .negated)) → RuleRan s n at r (ruleMeant s r)
   unfolding ruleMeant
-  by-kind kind e h = subst (λ (d : Kind). RuleRan s n at r (ruleBy s d (r .positive) (r .negated))) (sym e) h
+  by-kind kind e h = subst (λ (d : SheetKind). RuleRan s n at r (ruleBy s d (r .positive) (r .negated))) (sym e) h
 
-  basic-ran : k .value ≡ 1 → basicAt s n (k .next) ≡ GotRule r → RuleRan s n at r (ruleMeant s r)
+  basic-ran : k .value ≡ kindNumber basic → basicAt s n (k .next) ≡ GotRule r → RuleRan s n at r (ruleMeant s r)
   unfolding basicAt ruleBytes
   basic-ran v e =
       let g = head-ran s n (k .next) _ r e in
@@ -60,9 +58,8 @@ module _ (s : List ℕ) (n at : ℕ) (r : ReadRule) (k : Part) (number : numberA
       by-kind (Basic (g .0)) (b .kindIs)
       (record {
         proper = isBasic (g .0 .number) xs ys refl (h .within) (b .positive .rising) (b .negated .rising);
-        heads = subst (λ (d : Kind). length (headsOf s d) ≡ headCount d) (sym (b .kindIs)) (refl);
         place = g .1;
-        body = subst (λ (d : Kind). BodyRan s n d (g .1) r) (sym (b .kindIs)) b;
+        body = subst (λ (d : SheetKind). BodyRan s n d (g .1) r) (sym (b .kindIs)) b;
         need = omega (arith, b .needIs, b .positive .count, b .negated .count);
         far =
             omega (
@@ -74,11 +71,11 @@ module _ (s : List ℕ) (n at : ℕ) (r : ReadRule) (k : Part) (number : numberA
               body-far s n (Basic (g .0)) (g .1) r b,
             );
         bytes = λ is.
-            joined (kind-bytes 1 v is)
+            joined (kind-bytes (kindNumber basic) v is)
             (joined (h .bytes is) (stands-as (ones-lists xs ys) (plain-bytes s n (Basic (g .0)) (g .1) r (λ c. refl) b is)));
       })
 
-  choice-ran : k .value ≡ 3 → choiceAt s n (k .next) ≡ GotRule r → RuleRan s n at r (ruleMeant s r)
+  choice-ran : k .value ≡ kindNumber choice → choiceAt s n (k .next) ≡ GotRule r → RuleRan s n at r (ruleMeant s r)
   unfolding choiceAt ruleBytes
   choice-ran v e =
       let g = from-read RefusedRule _ (listAt s 1 n (k .next)) not-rule e in
@@ -91,9 +88,8 @@ module _ (s : List ℕ) (n at : ℕ) (r : ReadRule) (k : Part) (number : numberA
         proper =
             isChoice (numbersOf s (g .0)) xs ys refl (omega (arith, h .low, h .count)) (h .rising) (b .positive .rising)
             (b .negated .rising);
-        heads = subst (λ (d : Kind). length (headsOf s d) ≡ headCount d) (sym (b .kindIs)) (h .count);
         place = g .0 .next;
-        body = subst (λ (d : Kind). BodyRan s n d (g .0 .next) r) (sym (b .kindIs)) b;
+        body = subst (λ (d : SheetKind). BodyRan s n d (g .0 .next) r) (sym (b .kindIs)) b;
         need = omega (arith, b .needIs, b .positive .count, b .negated .count);
         far =
             omega (
@@ -106,7 +102,7 @@ module _ (s : List ℕ) (n at : ℕ) (r : ReadRule) (k : Part) (number : numberA
               body-far s n (Choice (g .0)) (g .0 .next) r b,
             );
         bytes = λ is.
-            joined (kind-bytes 3 v is)
+            joined (kind-bytes (kindNumber choice) v is)
             (joined (h .bytes is)
             (stands-as (ones-lists xs ys) (plain-bytes s n (Choice (g .0)) (g .0 .next) r (λ c. refl) b is)));
       })
@@ -116,7 +112,7 @@ module _ (s : List ℕ) (n at : ℕ) (r : ReadRule) (k : Part) (number : numberA
       (head : Atom)
       (place : ℕ)
       (h : HeadRan s n (k .next) head place)
-      (bound : Part)
+      (bound : Span)
       (number′ : numberAt s place ≡ Got bound)
     where
       bound-bytes :
@@ -126,7 +122,7 @@ module _ (s : List ℕ) (n at : ℕ) (r : ReadRule) (k : Part) (number : numberA
           joined (kind-bytes v e is) (joined (h .bytes is) (joined (number-bytes s is place bound number′) d))
 
       constraint-ran :
-          k .value ≡ 2 → BodyRan s n (Constraint head (bound .value)) (bound .next) r → RuleRan s n at r (ruleMeant s r)
+          k .value ≡ kindNumber constraint → BodyRan s n (Constraint head (bound .value)) (bound .next) r → RuleRan s n at r (ruleMeant s r)
       unfolding ruleBytes
       constraint-ran v b =
           let xs = numbersOf s (r .positive .atoms) in
@@ -137,9 +133,8 @@ module _ (s : List ℕ) (n at : ℕ) (r : ReadRule) (k : Part) (number : numberA
                 isConstraint (head .number) (bound .value) xs ys refl (h .within) (number-most s place bound number′)
                 (b .positive .rising)
                 (b .negated .rising);
-            heads = subst (λ (d : Kind). length (headsOf s d) ≡ headCount d) (sym (b .kindIs)) (refl);
             place = bound .next;
-            body = subst (λ (d : Kind). BodyRan s n d (bound .next) r) (sym (b .kindIs)) b;
+            body = subst (λ (d : SheetKind). BodyRan s n d (bound .next) r) (sym (b .kindIs)) b;
             need = sym (b .needIs);
             far =
                 omega (
@@ -152,11 +147,11 @@ module _ (s : List ℕ) (n at : ℕ) (r : ReadRule) (k : Part) (number : numberA
                   body-far s n (Constraint head (bound .value)) (bound .next) r b,
                 );
             bytes = λ is.
-                bound-bytes 2 v is
+                bound-bytes (kindNumber constraint) v is
                 (stands-as (ones-lists xs ys) (plain-bytes s n (Constraint head (bound .value)) (bound .next) r (λ c. refl) b is));
           })
 
-      weight-ran : k .value ≡ 5 → BodyRan s n (Weight head (bound .value)) (bound .next) r → RuleRan s n at r (ruleMeant s r)
+      weight-ran : k .value ≡ kindNumber weight → BodyRan s n (Weight head (bound .value)) (bound .next) r → RuleRan s n at r (ruleMeant s r)
       unfolding ruleBytes
       weight-ran v b =
           let xs = numbersOf s (r .positive .atoms) in
@@ -168,15 +163,14 @@ module _ (s : List ℕ) (n at : ℕ) (r : ReadRule) (k : Part) (number : numberA
           by-kind (Weight head (bound .value)) (b .kindIs)
           (record {
             proper =
-                isWeight (head .number) (bound .value) (weigh xs vs) (weigh ys ws) refl (h .within)
+                isWeight (head .number) (bound .value) (paired xs vs) (paired ys ws) refl (h .within)
                 (number-most s place bound number′)
                 (subst (λ (l : List ℕ). Rising n l) (sym (weigh-atoms xs vs e)) (b .positive .rising))
                 (subst (λ (l : List ℕ). Rising n l) (sym (weigh-atoms ys ws f)) (b .negated .rising))
                 (subst (λ (l : List ℕ). Light l) (sym (weigh-weights xs vs e)) (b .above .light))
                 (subst (λ (l : List ℕ). Light l) (sym (weigh-weights ys ws f)) (b .below .light));
-            heads = subst (λ (d : Kind). length (headsOf s d) ≡ headCount d) (sym (b .kindIs)) (refl);
             place = bound .next;
-            body = subst (λ (d : Kind). BodyRan s n d (bound .next) r) (sym (b .kindIs)) b;
+            body = subst (λ (d : SheetKind). BodyRan s n d (bound .next) r) (sym (b .kindIs)) b;
             need = sym (b .needIs);
             far =
                 omega (
@@ -189,7 +183,7 @@ module _ (s : List ℕ) (n at : ℕ) (r : ReadRule) (k : Part) (number : numberA
                   body-far s n (Weight head (bound .value)) (bound .next) r b,
                 );
             bytes = λ is.
-                bound-bytes 5 v is
+                bound-bytes (kindNumber weight) v is
                 (stands-as
                 (ap₂ (λ (us ts : List ℕ). us ++ ts)
                 (ap₂ (λ (us ts : List ℕ). listBytes us ++ listBytes ts) (sym (weigh-atoms xs vs e)) (sym (weigh-atoms ys ws f)))
@@ -198,7 +192,7 @@ module _ (s : List ℕ) (n at : ℕ) (r : ReadRule) (k : Part) (number : numberA
           })
 
   bounded-ran :
-      (weighs : Bool) → k .value ≡ boundedNumber weighs → boundedAt s n weighs (k .next) ≡ GotRule r
+      (weighs : Bool) → k .value ≡ kindNumber (boundedKind weighs) → boundedAt s n weighs (k .next) ≡ GotRule r
       → RuleRan s n at r (ruleMeant s r)
   unfolding boundedAt
   bounded-ran false v e =
@@ -210,10 +204,10 @@ module _ (s : List ℕ) (n at : ℕ) (r : ReadRule) (k : Part) (number : numberA
       let q = from-read RefusedRule _ (numberAt s (g .1)) not-rule (g .3) in
       weight-ran (g .0) (g .1) (g .2) (q .0) (q .1) v (body-ran s n (Weight (g .0) (q .0 .value)) (q .0 .next) r (q .2))
 
-pub rule-ran : (s : List ℕ) (n at : ℕ) (r : ReadRule) → ruleAt s n at ≡ GotRule r → RuleRan s n at r (ruleMeant s r)
+pub rule-ran : (s : List ℕ) (n at : ℕ) (r : SheetRule) → ruleAt s n at ≡ GotRule r → RuleRan s n at r (ruleMeant s r)
 rule-ran s n at r e = let g = cases s n at r e in by (g .0) (g .1) (g .2)
   where
-    by : (k : Part) → numberAt s at ≡ Got k → Cases s n at r k → RuleRan s n at r (ruleMeant s r)
+    by : (k : Span) → numberAt s at ≡ Got k → Cases s n at r k → RuleRan s n at r (ruleMeant s r)
     by k h (basicCase v z) = basic-ran s n at r k h v z
     by k h (boundedCase weighs v z) = bounded-ran s n at r k h weighs v z
     by k h (choiceCase v z) = choice-ran s n at r k h v z

@@ -6,29 +6,30 @@ use mathlib.Core.List.{List, [], _∷_, _++_, flatMap, append-assoc, append-nil}
 use native.Mathlib.Omega.{arith}
 use lib.ListN.{length, drop}
 use Rattle.rules.specs.Limits.{numberMost}
-use Rattle.rules.specs.Rule.{Rule, Weighted, Within, ones, basicRule, constraintRule, choiceRule, weightRule}
+use Rattle.rules.specs.Rule.{Rule, Weighted, Within, ones, basicRule, constraintRule, choiceRule, weightRule, atomsOf, weightsOf}
 use Rattle.rules.specs.declared.Atom.{Atom}
-use Rattle.numbers.specs.Answer.{pick, readThen, atomThen, part}
+use Rattle.numbers.specs.Answer.{readThen, atomThen, span}
+use Rattle.rules.specs.Sum.{pick}
 use Rattle.numbers.specs.Number.{numberAt}
 use Rattle.numbers.specs.Lists.{numbersOf}
-use Rattle.numbers.specs.Encode.{numberBytes, numbersBytes, listBytes, none, Rising}
+use Rattle.numbers.specs.shown.Encode.{numberBytes, numbersBytes, listBytes, none, Rising}
 use Rattle.numbers.specs.declared.Read.the-variants.{Got}
 use Rattle.numbers.proofs.number.Encoded.{number-read, past}
-use Rattle.numbers.proofs.lists.Encoded.{atom-there}
-use Rattle.numbers.proofs.lists.Whole.{listPart, list-read, list-numbers, list-past}
+use Rattle.rules.proofs.Inside.{atom-made}
+use Rattle.numbers.proofs.lists.Whole.{listSpan, list-read, list-numbers, list-past}
 use Rattle.sheet.specs.Body.{bodyAt}
 use Rattle.sheet.specs.Rule.{headThen, bounded, basicAt, boundedAt, choiceAt, ruleAt}
-use Rattle.sheet.specs.Meaning.{weigh, weighed, ruleBy, ruleMeant}
-use Rattle.sheet.specs.Encode.{atomsOf, weightsIn, ruleBytes, Proper, isBasic, isConstraint, isChoice, isWeight, Light}
-use Rattle.sheet.specs.declared.rule.Kind.{Kind}
-use Rattle.sheet.specs.declared.rule.Kind.the-variants.{Basic, Constraint, Choice, Weight}
-use Rattle.sheet.specs.declared.rule.Rule.{Rule as ReadRule}
-use Rattle.sheet.specs.declared.rule.RuleRead.{RuleRead}
-use Rattle.sheet.specs.declared.rule.RuleRead.the-variants.{Got as GotRule, Refused as RefusedRule}
+use Rattle.sheet.specs.Meaning.{paired, pairedIn, ruleBy, ruleMeant}
+use Rattle.sheet.specs.shown.Encode.{ruleBytes, ProperRule, isBasic, isConstraint, isChoice, isWeight, Light}
+use Rattle.sheet.specs.declared.SheetKind.{SheetKind}
+use Rattle.sheet.specs.declared.SheetKind.the-variants.{Basic, Constraint, Choice, Weight}
+use Rattle.sheet.specs.declared.SheetRule.{SheetRule}
+use Rattle.sheet.specs.declared.RuleRead.{RuleRead}
+use Rattle.sheet.specs.declared.RuleRead.the-variants.{Got as GotRule, Refused as RefusedRule}
 use Rattle.sheet.proofs.body.Written.{BodyWritten, body-written}
 use Rattle.sheet.proofs.rule.Apart.{plain-body, sizes, weigh-back}
 
-pub record RuleWritten (s : List ℕ) (n at : ℕ) (m : Rule) (q : List ℕ) (r : ReadRule) : Type 0 where
+pub record RuleWritten (s : List ℕ) (n at : ℕ) (m : Rule) (q : List ℕ) (r : SheetRule) : Type 0 where
   pub reads : ruleAt s n at ≡ GotRule r
   pub means : ruleMeant s r ≡ m
   pub rest : drop (r .next) s ≡ q
@@ -41,13 +42,13 @@ head-read :
     → drop at s ≡ numberBytes h ++ q → headThen s n at next ≡ next (numbered h) (at + length (numberBytes h))
 unfolding headThen readThen atomThen
 head-read s n at h q next m w d =
-    simp (number-read s at h q (omega (arith, w .high)) d, atom-there n h w)
+    simp (number-read s at h q (omega (arith, w .high)) d, atom-made n h w)
 
 -- what a rule says whose body was written
-module _ {s : List ℕ} {n at : ℕ} {kind : Kind} {xs ys vs ws q : List ℕ} {r : ReadRule} (b : BodyWritten s n kind at xs ys vs ws q r) where
+module _ {s : List ℕ} {n at : ℕ} {kind : SheetKind} {xs ys vs ws q : List ℕ} {r : SheetRule} (b : BodyWritten s n kind at xs ys vs ws q r) where
   by-kind : ruleMeant s r ≡ ruleBy s kind (r .positive) (r .negated)
   unfolding ruleMeant
-  by-kind = ap (λ (k : Kind). ruleBy s k (r .positive) (r .negated)) (b .kindIs)
+  by-kind = ap (λ (k : SheetKind). ruleBy s k (r .positive) (r .negated)) (b .kindIs)
 
   by-lists :
       {A : Type 0} (f : List ℕ → List ℕ → A)
@@ -55,16 +56,16 @@ module _ {s : List ℕ} {n at : ℕ} {kind : Kind} {xs ys vs ws q : List ℕ} {r
   by-lists f = ap₂ f (b .positive) (b .negated)
 
   weighed-back : {A : Type 0} (f : List Weighted → List Weighted → A) (ls ms : List Weighted) → xs ≡ atomsOf ls → ys ≡ atomsOf ms
-      → vs ≡ weightsIn ls → ws ≡ weightsIn ms → f (weighed s (r .positive)) (weighed s (r .negated)) ≡ f ls ms
+      → vs ≡ weightsOf ls → ws ≡ weightsOf ms → f (pairedIn s (r .positive)) (pairedIn s (r .negated)) ≡ f ls ms
   weighed-back f ls ms ex ey ev ew =
       ap₂ f
-      (ap₂ (λ (us ts : List ℕ). weigh us ts) (b .positive ∙ ex) (b .above ∙ ev) ∙ weigh-back ls)
-      (ap₂ (λ (us ts : List ℕ). weigh us ts) (b .negated ∙ ey) (b .below ∙ ew) ∙ weigh-back ms)
+      (ap₂ (λ (us ts : List ℕ). paired us ts) (b .positive ∙ ex) (b .above ∙ ev) ∙ weigh-back ls)
+      (ap₂ (λ (us ts : List ℕ). paired us ts) (b .negated ∙ ey) (b .below ∙ ew) ∙ weigh-back ms)
 
 module _ (s : List ℕ) (n at : ℕ) (m : n ≤ numberMost) where
   basic-written :
       (h : ℕ) (xs ys q : List ℕ) → Within n h → Rising n xs → Rising n ys → drop at s ≡ ruleBytes (basicRule h xs ys) ++ q
-      → (r : ReadRule) × RuleWritten s n at (basicRule h xs ys) q r
+      → (r : SheetRule) × RuleWritten s n at (basicRule h xs ys) q r
   unfolding ruleBytes ruleAt basicAt readThen pick ruleMeant flatMap numberMost
   basic-written h xs ys q w rx ry d =
       let x : List ℕ = (listBytes xs ++ listBytes ys) ++ q in
@@ -89,14 +90,14 @@ module _ (s : List ℕ) (n at : ℕ) (m : n ≤ numberMost) where
 
   as-rule :
       (t u : Rule) (q : List ℕ) → t ≡ u → drop at s ≡ ruleBytes t ++ q
-      → (drop at s ≡ ruleBytes u ++ q → (r : ReadRule) × RuleWritten s n at u q r) → (r : ReadRule) × RuleWritten s n at t q r
+      → (drop at s ≡ ruleBytes u ++ q → (r : SheetRule) × RuleWritten s n at u q r) → (r : SheetRule) × RuleWritten s n at t q r
   as-rule t u q e d f =
       let g = f (subst (λ (v : Rule). drop at s ≡ ruleBytes v ++ q) e d) in
       (g .0, subst (λ (v : Rule). RuleWritten s n at v q (g .0)) (sym e) (g .1))
 
   choice-written :
       (hs xs ys q : List ℕ) → 1 ≤ length hs → Rising n hs → Rising n xs → Rising n ys → drop at s ≡ ruleBytes (choiceRule hs xs ys) ++ q
-      → (r : ReadRule) × RuleWritten s n at (choiceRule hs xs ys) q r
+      → (r : SheetRule) × RuleWritten s n at (choiceRule hs xs ys) q r
   unfolding ruleBytes ruleAt choiceAt readThen pick ruleMeant flatMap numberMost
   choice-written hs xs ys q o rh rx ry d =
       let x : List ℕ = (listBytes xs ++ listBytes ys) ++ q in
@@ -108,14 +109,14 @@ module _ (s : List ℕ) (n at : ℕ) (m : n ≤ numberMost) where
       let d₂ : drop a₁ s ≡ listBytes hs ++ x = past s (numberBytes 3) _ at d₁ in
       let a₂ : ℕ = a₁ + length (listBytes hs) in
       let b =
-      body-written s n (Choice (listPart a₁ hs)) a₂ xs ys [] [] q m rx ry none none refl refl
+      body-written s n (Choice (listSpan a₁ hs)) a₂ xs ys [] [] q m rx ry none none refl refl
       (list-past s 1 n a₁ hs x m rh d₂) in (
         b .0,
         record {
           reads = simp (number-read s at 3 _ (omega arith) d₁, list-read s 1 n a₁ hs x m rh d₂ o, b .1 .reads);
           means =
               by-kind (b .1)
-              ∙ by-lists (b .1) (λ us vs. choiceRule (numbersOf s (listPart a₁ hs)) us vs)
+              ∙ by-lists (b .1) (λ us vs. choiceRule (numbersOf s (listSpan a₁ hs)) us vs)
               ∙ ap (λ (us : List ℕ). choiceRule us xs ys) (list-numbers s 1 n a₁ hs x m rh d₂);
           rest = b .1 .rest;
         },
@@ -126,7 +127,7 @@ module _ (s : List ℕ) (n at : ℕ) (m : n ≤ numberMost) where
 
   -- a kind, a head and a bound that were written, before a body
   record BoundWritten (weighs : Bool) (v h k : ℕ) (q : List ℕ) : Type 0 where
-    kind : numberAt s at ≡ Got (part v at (at + length (numberBytes v)))
+    kind : numberAt s at ≡ Got (span v at (at + length (numberBytes v)))
     place : ℕ
     bound : boundedAt s n weighs (at + length (numberBytes v)) ≡ bodyAt s n (bounded weighs (numbered h) k) place
     rest : drop place s ≡ q
@@ -163,7 +164,7 @@ module _ (s : List ℕ) (n at : ℕ) (m : n ≤ numberMost) where
 
   constraint-written :
       (h k : ℕ) (xs ys q : List ℕ) → Within n h → k ≤ numberMost → Rising n xs → Rising n ys
-      → drop at s ≡ ruleBytes (constraintRule h k xs ys) ++ q → (r : ReadRule) × RuleWritten s n at (constraintRule h k xs ys) q r
+      → drop at s ≡ ruleBytes (constraintRule h k xs ys) ++ q → (r : SheetRule) × RuleWritten s n at (constraintRule h k xs ys) q r
   unfolding ruleBytes ruleAt readThen pick ruleMeant flatMap numberMost
   constraint-written h k xs ys q w mk rx ry d =
       let lists : List ℕ = listBytes (atomsOf (ones xs)) ++ listBytes (atomsOf (ones ys)) in
@@ -181,15 +182,15 @@ module _ (s : List ℕ) (n at : ℕ) (m : n ≤ numberMost) where
 
   weight-written :
       (h k : ℕ) (xs ys : List Weighted) (q : List ℕ) → Within n h → k ≤ numberMost → Rising n (atomsOf xs) → Rising n (atomsOf ys)
-      → Light (weightsIn xs) → Light (weightsIn ys) → drop at s ≡ ruleBytes (weightRule h k xs ys) ++ q
-      → (r : ReadRule) × RuleWritten s n at (weightRule h k xs ys) q r
+      → Light (weightsOf xs) → Light (weightsOf ys) → drop at s ≡ ruleBytes (weightRule h k xs ys) ++ q
+      → (r : SheetRule) × RuleWritten s n at (weightRule h k xs ys) q r
   unfolding ruleBytes ruleAt readThen pick ruleMeant numberMost
   weight-written h k xs ys q w mk rx ry lx ly d =
       let lists : List ℕ = listBytes (atomsOf xs) ++ listBytes (atomsOf ys) in
-      let weights : List ℕ = numbersBytes (weightsIn xs) ++ numbersBytes (weightsIn ys) in
+      let weights : List ℕ = numbersBytes (weightsOf xs) ++ numbersBytes (weightsOf ys) in
       let g = bound-written true 5 h k (lists ++ weights) q (omega arith) w mk d in
       let b =
-      body-written s n (Weight (numbered h) k) (g .place) (atomsOf xs) (atomsOf ys) (weightsIn xs) (weightsIn ys) q m rx ry lx ly
+      body-written s n (Weight (numbered h) k) (g .place) (atomsOf xs) (atomsOf ys) (weightsOf xs) (weightsOf ys) q m rx ry lx ly
       (sizes xs)
       (sizes ys)
       (g .rest ∙ append-assoc lists weights q) in (
@@ -202,7 +203,7 @@ module _ (s : List ℕ) (n at : ℕ) (m : n ≤ numberMost) where
       )
 
   pub rule-written :
-      (t : Rule) (q : List ℕ) → Proper n t → drop at s ≡ ruleBytes t ++ q → (r : ReadRule) × RuleWritten s n at t q r
+      (t : Rule) (q : List ℕ) → ProperRule n t → drop at s ≡ ruleBytes t ++ q → (r : SheetRule) × RuleWritten s n at t q r
   rule-written t q (isBasic h xs ys e w x y) d = as-rule t _ q e d (λ z. basic-written h xs ys q w x y z)
   rule-written t q (isConstraint h k xs ys e w b x y) d = as-rule t _ q e d (λ z. constraint-written h k xs ys q w b x y z)
   rule-written t q (isChoice hs xs ys e o w x y) d = as-rule t _ q e d (λ z. choice-written hs xs ys q o w x y z)

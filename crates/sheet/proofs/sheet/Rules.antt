@@ -6,30 +6,30 @@ use mathlib.Core.List.{List, [], _∷_, flatMap}
 use native.Mathlib.Omega.{arith}
 use lib.ListN.{length}
 use Rattle.rules.specs.Rule.{Rule}
-use Rattle.numbers.specs.Lists.{run, upTo}
-use Rattle.numbers.specs.Encode.{IsBytes}
+use Rattle.numbers.specs.Lists.{inTurn, upTo}
+use Rattle.numbers.specs.shown.Encode.{IsBytes}
 use Rattle.numbers.specs.declared.Refusal.{Refusal}
-use Rattle.numbers.specs.declared.Part.{Part}
+use Rattle.numbers.specs.declared.Span.{Span}
 use Rattle.numbers.specs.declared.Read.the-variants.{Got, Refused}
-use Rattle.numbers.proofs.Answer.{from-read, not-got, same-part}
+use Rattle.numbers.proofs.Answer.{from-read, not-got, same-span}
 use Rattle.numbers.proofs.Stands.{Stands, nothing, joined, stands-as}
 use Rattle.sheet.specs.Rule.{ruleAt, ruleThen, ruleStep}
 use Rattle.sheet.specs.Meaning.{ruleMeant, rulesFrom}
-use Rattle.sheet.specs.Encode.{rulesBytes, Propers, noRules, andRule, rulesSize}
-use Rattle.sheet.specs.declared.rule.Rule.{Rule as ReadRule}
-use Rattle.sheet.specs.declared.rule.RuleRead.{RuleRead}
-use Rattle.sheet.specs.declared.rule.RuleRead.the-variants.{Got as GotRule, Refused as RefusedRule}
+use Rattle.sheet.specs.shown.Encode.{rulesBytes, ProperRules, noRules, andRule, rulesSize}
+use Rattle.sheet.specs.declared.SheetRule.{SheetRule}
+use Rattle.sheet.specs.declared.RuleRead.{RuleRead}
+use Rattle.sheet.specs.declared.RuleRead.the-variants.{Got as GotRule, Refused as RefusedRule}
 use Rattle.sheet.proofs.rule.Means.{rule-ran}
 
 pub from-rule :
-    {A : Type 0} {z : A} (up : Refusal → A) (next : ReadRule → A) (a : RuleRead) → ((why : Refusal) → up why ≡ z → ⊥)
-    → ruleThen up a next ≡ z → (r : ReadRule) × (a ≡ GotRule r) × (next r ≡ z)
+    {A : Type 0} {z : A} (up : Refusal → A) (next : SheetRule → A) (a : RuleRead) → ((why : Refusal) → up why ≡ z → ⊥)
+    → ruleThen up a next ≡ z → (r : SheetRule) × (a ≡ GotRule r) × (next r ≡ z)
 unfolding ruleThen
 from-rule up next (GotRule r) other e = (r, refl, e)
 from-rule up next (RefusedRule why) other e = absurd (other why e)
 
 pub rules-more :
-    (s : List ℕ) (n left at : ℕ) (r : ReadRule) → ruleAt s n at ≡ GotRule r
+    (s : List ℕ) (n left at : ℕ) (r : SheetRule) → ruleAt s n at ≡ GotRule r
     → rulesFrom (suc left) s n at ≡ ruleMeant s r ∷ rulesFrom left s n (r .next)
 unfolding rulesFrom ruleThen
 rules-more s n left at r e =
@@ -37,29 +37,29 @@ rules-more s n left at r e =
 
 -- the next rule of a run that was read, and the run of the others
 pub rules-next :
-    (s : List ℕ) (n left before : ℕ) (done p : Part) → run (ruleStep s n) (suc left) before done ≡ Got p
-    → (r : ReadRule) × (ruleAt s n (done .next) ≡ GotRule r) × (run (ruleStep s n) left before (upTo done (r .next)) ≡ Got p)
-unfolding run ruleStep
+    (s : List ℕ) (n left before : ℕ) (done p : Span) → inTurn (ruleStep s n) (suc left) before done ≡ Got p
+    → (r : SheetRule) × (ruleAt s n (done .next) ≡ GotRule r) × (inTurn (ruleStep s n) left before (upTo done (r .next)) ≡ Got p)
+unfolding inTurn ruleStep
 rules-next s n left before done p e =
     let g = from-read Refused _ (ruleStep s n before (done .next)) not-got e in
     let h = from-rule Refused _ (ruleAt s n (done .next)) not-got (g .1) in (
       h .0,
       h .1,
-      subst (λ (q : Part). run (ruleStep s n) left (q .value) (upTo done (q .next)) ≡ Got p) (sym (same-part (h .2))) (g .2),
+      subst (λ (q : Span). inTurn (ruleStep s n) left (q .value) (upTo done (q .next)) ≡ Got p) (sym (same-span (h .2))) (g .2),
     )
 
 pub record RulesRan (s : List ℕ) (n left at next : ℕ) : Type 0 where
-  pub propers : Propers n (rulesFrom left s n at)
+  pub propers : ProperRules n (rulesFrom left s n at)
   pub count : length (rulesFrom left s n at) ≡ left
   pub far : at + (rulesSize (rulesFrom left s n at) + 3 * left) ≤ next
   pub bytes : IsBytes s → Stands s at (rulesBytes (rulesFrom left s n at)) next
 
 pub rules-ran :
-    (s : List ℕ) (n left before : ℕ) (done p : Part) → run (ruleStep s n) left before done ≡ Got p
+    (s : List ℕ) (n left before : ℕ) (done p : Span) → inTurn (ruleStep s n) left before done ≡ Got p
     → RulesRan s n left (done .next) (p .next)
-unfolding run rulesFrom rulesSize flatMap
+unfolding inTurn rulesFrom rulesSize flatMap
 rules-ran s n zero before done p e =
-    let q : done .next ≡ p .next = ap (λ (q : Part). q .next) (same-part e) in
+    let q : done .next ≡ p .next = ap (λ (q : Span). q .next) (same-span e) in
     record { propers = noRules; count = refl; far = omega arith; bytes = λ is. nothing (done .next) (p .next) q }
 rules-ran s n (suc left) before done p e =
     let g = rules-next s n left before done p e in
@@ -67,7 +67,7 @@ rules-ran s n (suc left) before done p e =
     let t = rules-ran s n left before (upTo done (g .0 .next)) p (g .2) in
     let m = rules-more s n left (done .next) (g .0) (g .1) in
     record {
-      propers = subst (λ (rs : List Rule). Propers n rs) (sym m) (andRule (r .proper) (t .propers));
+      propers = subst (λ (rs : List Rule). ProperRules n rs) (sym m) (andRule (r .proper) (t .propers));
       count = ap length m ∙ ap suc (t .count);
       far = omega (arith, ap rulesSize m, r .far, t .far);
       bytes = λ is. stands-as (ap (λ (rs : List Rule). rulesBytes rs) (sym m)) (joined (r .bytes is) (t .bytes is));

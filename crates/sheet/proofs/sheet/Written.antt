@@ -8,36 +8,37 @@ use lib.ListN.{length, drop, length-drop}
 use borrow.Author.Tests.{le-ltb}
 use Rattle.rules.specs.Limits.{numberMost, atomsMost, rulesMost, bytesMost}
 use Rattle.rules.specs.Rule.{Rule, Sheet}
-use Rattle.numbers.specs.Answer.{readThen, part, pick}
-use Rattle.numbers.specs.Lists.{run, upTo, numbersOf}
-use Rattle.numbers.specs.Encode.{numberBytes, listBytes, Rising}
-use Rattle.numbers.specs.declared.Part.{Part}
+use Rattle.numbers.specs.Answer.{readThen, span}
+use Rattle.rules.specs.Sum.{pick}
+use Rattle.numbers.specs.Lists.{inTurn, upTo, numbersOf}
+use Rattle.numbers.specs.shown.Encode.{numberBytes, listBytes, Rising}
+use Rattle.numbers.specs.declared.Span.{Span}
 use Rattle.numbers.specs.declared.Read.{Read}
 use Rattle.numbers.specs.declared.Read.the-variants.{Got, Refused}
 use Rattle.numbers.proofs.number.Encoded.{number-read, past}
 use Rattle.numbers.proofs.lists.Most.{run-keeps}
-use Rattle.numbers.proofs.lists.Whole.{listPart, within-read, list-read, list-numbers, list-past}
+use Rattle.numbers.proofs.lists.Whole.{listSpan, within-read, list-read, list-numbers, list-past}
 use Rattle.sheet.specs.Rule.{ruleStep, rulesAt}
-use Rattle.sheet.specs.Sheet.{editionAt, tailAt, restAt, wholeAt, checkOf, checkThen}
+use Rattle.sheet.specs.Sheet.{editionAt, tailAt, restAt, wholeAt, sheetRead, sheetThen}
 use Rattle.sheet.specs.Meaning.{rulesFrom, sheetMeant, accepted, refused, sheetOf}
-use Rattle.sheet.specs.Encode.{ruleBytes, rulesBytes, encode, WellFormed, Propers, noRules, andRule}
-use Rattle.sheet.specs.declared.sheet.Outline.{Outline}
-use Rattle.sheet.specs.declared.sheet.Checked.{Checked}
-use Rattle.sheet.specs.declared.sheet.Checked.the-variants.{Accepted}
+use Rattle.sheet.specs.shown.Encode.{ruleBytes, rulesBytes, encode, WellFormed, ProperRules, noRules, andRule}
+use Rattle.sheet.specs.declared.Outline.{Outline}
+use Rattle.sheet.specs.declared.SheetRead.{SheetRead}
+use Rattle.sheet.specs.declared.SheetRead.the-variants.{Accepted}
 use Rattle.sheet.proofs.rule.Laws.{step-got}
 use Rattle.sheet.proofs.rule.Written.{rule-written}
 use Rattle.sheet.proofs.sheet.Rules.{rules-more}
 
 -- rules that were written
-pub record RulesWritten (s : List ℕ) (n before : ℕ) (rs : List Rule) (q : List ℕ) (done p : Part) : Type 0 where
-  pub reads : run (ruleStep s n) (length rs) before done ≡ Got p
+pub record RulesWritten (s : List ℕ) (n before : ℕ) (rs : List Rule) (q : List ℕ) (done p : Span) : Type 0 where
+  pub reads : inTurn (ruleStep s n) (length rs) before done ≡ Got p
   pub means : rulesFrom (length rs) s n (done .next) ≡ rs
   pub rest : drop (p .next) s ≡ q
 
 pub rules-written :
-    (s : List ℕ) (n before : ℕ) → n ≤ numberMost → {rs : List Rule} → Propers n rs → (done : Part) (q : List ℕ)
-    → drop (done .next) s ≡ rulesBytes rs ++ q → (p : Part) × RulesWritten s n before rs q done p
-unfolding run rulesFrom flatMap readThen
+    (s : List ℕ) (n before : ℕ) → n ≤ numberMost → {rs : List Rule} → ProperRules n rs → (done : Span) (q : List ℕ)
+    → drop (done .next) s ≡ rulesBytes rs ++ q → (p : Span) × RulesWritten s n before rs q done p
+unfolding inTurn rulesFrom flatMap readThen
 rules-written s n before m noRules done q d = (done, record { reads = refl; means = refl; rest = d })
 rules-written s n before m (andRule {r = t} {rs = rs} proper others) done q d =
     let g = rule-written s n (done .next) m t (rulesBytes rs ++ q) proper (d ∙ append-assoc (ruleBytes t) (rulesBytes rs) q) in
@@ -46,7 +47,7 @@ rules-written s n before m (andRule {r = t} {rs = rs} proper others) done q d =
       o .0,
       record {
         reads =
-            ap (λ (a : Read). readThen Refused a (λ one. run (ruleStep s n) (length rs) (one .value) (upTo done (one .next))))
+            ap (λ (a : Read). readThen Refused a (λ one. inTurn (ruleStep s n) (length rs) (one .value) (upTo done (one .next))))
             (step-got s n before (done .next) _ r refl (g .1 .reads))
             ∙ o .1 .reads;
         means = rules-more s n (length rs) (done .next) r (g .1 .reads) ∙ ap₂ (λ (a : Rule) (l : List Rule). a ∷ l) (g .1 .means) (o .1 .means);
@@ -59,15 +60,15 @@ at-end : (s : List ℕ) (next : ℕ) → drop next s ≡ [] → length s ≤ nex
 at-end s next d = omega (arith, ap length d, length-drop next s)
 
 -- compute lists that were written, up to the end
-pub record TailWritten (s : List ℕ) (n : ℕ) (rules : Part) (xs ys : List ℕ) : Type 0 where
-  pub ins : Part
-  pub outs : Part
+pub record TailWritten (s : List ℕ) (n : ℕ) (rules : Span) (xs ys : List ℕ) : Type 0 where
+  pub ins : Span
+  pub outs : Span
   pub reads : tailAt s n rules ≡ Accepted (record { atoms = n; rules = rules; ins = ins; outs = outs })
   pub insAre : numbersOf s ins ≡ xs
   pub outsAre : numbersOf s outs ≡ ys
 
 tail-written :
-    (s : List ℕ) (n : ℕ) (rules : Part) (xs ys : List ℕ) → n ≤ numberMost → Rising n xs → Rising n ys
+    (s : List ℕ) (n : ℕ) (rules : Span) (xs ys : List ℕ) → n ≤ numberMost → Rising n xs → Rising n ys
     → drop (rules .next) s ≡ listBytes xs ++ listBytes ys → TailWritten s n rules xs ys
 unfolding tailAt readThen pick
 tail-written s n rules xs ys m rx ry d =
@@ -75,8 +76,8 @@ tail-written s n rules xs ys m rx ry d =
     let d₂ : drop a s ≡ listBytes ys ++ [] = list-past s 0 n (rules .next) xs (listBytes ys) m rx d ∙ sym (append-nil (listBytes ys)) in
     let end : length s ≤ a + length (listBytes ys) = at-end s _ (list-past s 0 n a ys [] m ry d₂) in
     record {
-      ins = listPart (rules .next) xs;
-      outs = listPart a ys;
+      ins = listSpan (rules .next) xs;
+      outs = listSpan a ys;
       reads =
           simp (
             list-read s 0 n (rules .next) xs (listBytes ys) m rx d (omega arith),
@@ -96,7 +97,7 @@ unfolding rulesMost numberMost
 rules-small v h = omega arith
 
 sheet-is :
-    (s : List ℕ) (n : ℕ) (p i u : Part) (sh : Sheet) → n ≡ sh .atoms → rulesFrom (p .value) s n (p .first) ≡ sh .rules
+    (s : List ℕ) (n : ℕ) (p i u : Span) (sh : Sheet) → n ≡ sh .atoms → rulesFrom (p .value) s n (p .first) ≡ sh .rules
     → numbersOf s i ≡ sh .computeIn → numbersOf s u ≡ sh .computeOut
     → sheetMeant s (record { atoms = n; rules = p; ins = i; outs = u }) ≡ sh
 unfolding sheetMeant
@@ -119,13 +120,13 @@ rest-written s sh at w d =
     let n : ℕ = sh .atoms in
     let c : ℕ = length (sh .rules) in
     let a : ℕ = at + length (numberBytes c) in
-    let k : Part = part c at a in
+    let k : Span = span c at a in
     let q : List ℕ = listBytes (sh .computeIn) ++ listBytes (sh .computeOut) in
     let m : n ≤ numberMost = atoms-small n (w .atoms) in
     let e = number-read s at c (rulesBytes (sh .rules) ++ q) (rules-small c (w .count)) d in
-    let g = rules-written s n 0 m (w .rules) (part c a a) q (past s (numberBytes c) _ at d) in
+    let g = rules-written s n 0 m (w .rules) (span c a a) q (past s (numberBytes c) _ at d) in
     let p = g .0 in
-    let h = run-keeps (ruleStep s n) c 0 (part c a a) p (g .1 .reads) in
+    let h = run-keeps (ruleStep s n) c 0 (span c a a) p (g .1 .reads) in
     let t = tail-written s n p (sh .computeIn) (sh .computeOut) m (w .computeIn) (w .computeOut) (g .1 .rest) in
     record {
       outline = record { atoms = n; rules = p; ins = t .ins; outs = t .outs };
@@ -135,12 +136,12 @@ rest-written s sh at w d =
           (t .outsAre);
     }
 
-pub meant : (s : List ℕ) (o : Outline) → checkOf s ≡ Accepted o → sheetOf s ≡ accepted (sheetMeant s o)
-unfolding sheetOf checkThen
-meant s o e = ap (λ (c : Checked). checkThen refused c (λ o. accepted (sheetMeant s o))) e
+pub meant : (s : List ℕ) (o : Outline) → sheetRead s ≡ Accepted o → sheetOf s ≡ accepted (sheetMeant s o)
+unfolding sheetOf sheetThen
+meant s o e = ap (λ (c : SheetRead). sheetThen refused c (λ o. accepted (sheetMeant s o))) e
 
 pub sheet-written : (s : List ℕ) (sh : Sheet) → WellFormed sh → s ≡ encode sh → length s ≤ bytesMost → sheetOf s ≡ accepted sh
-unfolding checkOf wholeAt editionAt readThen pick encode numberMost
+unfolding sheetRead wholeAt editionAt readThen pick encode numberMost
 sheet-written s sh w d l =
     let a₁ : ℕ = 0 + length (numberBytes 1) in
     let d₁ = past s (numberBytes 1) _ 0 d in
@@ -148,11 +149,11 @@ sheet-written s sh w d l =
     let r = rest-written s sh a₂ w (past s (numberBytes (sh .atoms)) _ a₁ d₁) in
     let e = number-read s 0 1 _ (omega arith) d in
     let f = number-read s a₁ (sh .atoms) _ (atoms-small (sh .atoms) (w .atoms)) d₁ in
-    let c : checkOf s ≡ Accepted (r .outline) =
+    let c : sheetRead s ≡ Accepted (r .outline) =
     simp (
       le-ltb bytesMost (length s) l,
       e,
-      within-read s 0 atomsMost a₁ (part (sh .atoms) a₁ a₂) f (omega arith) (w .atoms),
+      within-read s 0 atomsMost a₁ (span (sh .atoms) a₁ a₂) f (omega arith) (w .atoms),
       r .reads,
     ) in
     meant s (r .outline) c ∙ ap accepted (r .means)

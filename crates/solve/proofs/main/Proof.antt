@@ -2,15 +2,15 @@
 use Prim.Native.Nat.{ℕ}
 use mathlib.Core.Path.{_≡_, subst}
 use mathlib.Core.List.{List}
-use Rattle.solve.specs.Input.{Within}
+use Rattle.solve.specs.Input.{InBuffer}
 use Rattle.solve.specs.declared.Input.{Input}
 use Rattle.solve.specs.declared.Input.the-variants.{Bytes}
 use borrow.Author.Needs.{needs}
 use Rattle.solve.proofs.main.Statement.{statement}
 use Rattle.solve.proofs.main.Tie as tie
 
-told : (buffer : List ℕ) (r : Input) (len : ℕ) → r ≡ Bytes len → Within buffer r → Within buffer (Bytes len)
-told buffer r len e w = subst (Within buffer) e w
+told : (buffer : List ℕ) (r : Input) (len : ℕ) → r ≡ Bytes len → InBuffer buffer r → InBuffer buffer (Bytes len)
+told buffer r len e w = subst (InBuffer buffer) e w
 
 slice-aggregate-read-all : tie.Need-slice-aggregate-read-all
 slice-aggregate-read-all c = search needs

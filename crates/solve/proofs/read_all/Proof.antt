@@ -6,12 +6,12 @@ use borrow.Author.Needs.{needs}
 use native.Mathlib.Omega.{arith}
 use lib.ListN.{length}
 use lib.Seq.{length-take-le}
-use Rattle.solve.specs.Input.{Within}
+use Rattle.solve.specs.Input.{InBuffer}
 use Rattle.solve.specs.declared.Input.the-variants.{Bytes}
 use Rattle.solve.proofs.read_all.Statement.{statement}
 use Rattle.solve.proofs.read_all.Tie as tie
 
-within : (len : ℕ) (buffer : List ℕ) → len ≤ length buffer → Within buffer (Bytes len)
+within : (len : ℕ) (buffer : List ℕ) → len ≤ length buffer → InBuffer buffer (Bytes len)
 within len buffer h = (h, sym (length-take-le len buffer h))
 
 abbrev Inv-loop : tie.InvT-loop

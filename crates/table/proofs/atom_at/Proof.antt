@@ -1,6 +1,6 @@
 -- `table::atom_at`: It is the word that the definition names.
 use borrow.Author.Needs.{needs}
-use Rattle.table.specs.Words.{atomAt, pairWidth}
+use Rattle.table.specs.inner.Words.{pairAtom, pairWidth}
 use Rattle.table.proofs.atom_at.Statement.{statement}
 use Rattle.table.proofs.atom_at.Tie as tie
 
@@ -11,7 +11,7 @@ word-requires : tie.Need-word-requires
 word-requires c κs = search needs
 
 returns : tie.Need-returns
-unfolding atomAt pairWidth
+unfolding pairAtom pairWidth
 returns c = search needs
 
 pub atom-at-spec : {M : Type 1} → statement M

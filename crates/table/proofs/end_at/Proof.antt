@@ -1,7 +1,7 @@
 -- `table::end_at`: It is the word that the definition names, in the next row.
 use borrow.Author.Needs.{needs}
-use Rattle.table.specs.Words.{rowWidth}
-use Rattle.table.specs.Rows.{headsAt}
+use Rattle.table.specs.inner.Words.{rowWidth}
+use Rattle.table.specs.inner.Rows.{headsAt}
 use Rattle.table.proofs.end_at.Statement.{statement}
 use Rattle.table.proofs.end_at.Tie as tie
 

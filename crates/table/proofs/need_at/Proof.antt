@@ -1,7 +1,7 @@
 -- `table::need_at`: It is the word that the definition names.
 use borrow.Author.Needs.{needs}
-use Rattle.table.specs.Words.{rowWidth}
-use Rattle.table.specs.Rows.{needAt}
+use Rattle.table.specs.inner.Words.{rowWidth}
+use Rattle.table.specs.inner.Rows.{needAt}
 use Rattle.table.proofs.need_at.Statement.{statement}
 use Rattle.table.proofs.need_at.Tie as tie
 

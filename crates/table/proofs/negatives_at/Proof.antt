@@ -1,7 +1,7 @@
 -- `table::negatives_at`: It is the word that the definition names.
 use borrow.Author.Needs.{needs}
-use Rattle.table.specs.Words.{rowWidth}
-use Rattle.table.specs.Rows.{negativesAt}
+use Rattle.table.specs.inner.Words.{rowWidth}
+use Rattle.table.specs.inner.Rows.{negativesAt}
 use Rattle.table.proofs.negatives_at.Statement.{statement}
 use Rattle.table.proofs.negatives_at.Tie as tie
 

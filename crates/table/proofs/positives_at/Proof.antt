@@ -1,7 +1,7 @@
 -- `table::positives_at`: It is the word that the definition names.
 use borrow.Author.Needs.{needs}
-use Rattle.table.specs.Words.{rowWidth}
-use Rattle.table.specs.Rows.{positivesAt}
+use Rattle.table.specs.inner.Words.{rowWidth}
+use Rattle.table.specs.inner.Rows.{positivesAt}
 use Rattle.table.proofs.positives_at.Statement.{statement}
 use Rattle.table.proofs.positives_at.Tie as tie
 

@@ -1,6 +1,6 @@
 -- `table::weight_at`: It is the word that the definition names.
 use borrow.Author.Needs.{needs}
-use Rattle.table.specs.Words.{weightAt, pairWidth}
+use Rattle.table.specs.inner.Words.{pairWeight, pairWidth}
 use Rattle.table.proofs.weight_at.Statement.{statement}
 use Rattle.table.proofs.weight_at.Tie as tie
 
@@ -14,7 +14,7 @@ word-requires : tie.Need-word-requires
 word-requires c κs = search needs
 
 returns : tie.Need-returns
-unfolding weightAt pairWidth
+unfolding pairWeight pairWidth
 returns c = search needs
 
 pub weight-at-spec : {M : Type 1} → statement M

@@ -11,22 +11,22 @@ use lib.Dec.{eqb}
 use borrow.Author.Tests.{eqb-true, eqb-false}
 use lib.Seq.{length-take-le, take-suc, take-suc-set}
 use Rattle.text.specs.Line.{digit, digits, spaced, spacedAll, isIn, inAtom, inAtoms}
-use Rattle.text.specs.Put.{Room, RoomForAtoms, Puts}
+use Rattle.text.specs.inner.Put.{BytesFit, AtomsFit, Appends}
 use Rattle.text.proofs.Lines.{less, digits-small, digits-large, spaced-join, atoms-fit}
 
-pub put-none : (out : List ℕ) (len : ℕ) → len ≤ length out → Puts out len [] out len
+pub put-none : (out : List ℕ) (len : ℕ) → len ≤ length out → Appends out len [] out len
 put-none out len h = record { long = refl; ends = omega arith; stands = sym (append-nil (take len out)) }
 
-pub put-one : (out : List ℕ) (len b : ℕ) → Room out len (b ∷ []) → Puts out len (b ∷ []) (set out len b) (len + 1)
+pub put-one : (out : List ℕ) (len b : ℕ) → BytesFit out len (b ∷ []) → Appends out len (b ∷ []) (set out len b) (len + 1)
 put-one out len b room =
     record { long = length-set out len b; ends = refl; stands = rw add-one (take-suc-set out len b (omega arith)) }
 
 -- one after the other
 pub then :
     {out out′ out″ : List ℕ} {len next end : ℕ} {s t : List ℕ}
-    → Puts out len s out′ next
-    → Puts out′ next t out″ end
-    → Puts out len (s ++ t) out″ end
+    → Appends out len s out′ next
+    → Appends out′ next t out″ end
+    → Appends out len (s ++ t) out″ end
 then {out} {out′} {out″} {len} {next} {end} {s} {t} p q =
     record {
       long = q .long ∙ p .long;
@@ -34,37 +34,37 @@ then {out} {out′} {out″} {len} {next} {end} {s} {t} p q =
       stands = q .stands ∙ ap (λ (l : List ℕ). l ++ t) (p .stands) ∙ append-assoc (take len out) s t;
     }
 
-pub retold : {out out′ : List ℕ} {len next : ℕ} {s t : List ℕ} → s ≡ t → Puts out len s out′ next → Puts out len t out′ next
-retold {out} {out′} {len} {next} e p = subst (λ (w : List ℕ). Puts out len w out′ next) e p
+pub retold : {out out′ : List ℕ} {len next : ℕ} {s t : List ℕ} → s ≡ t → Appends out len s out′ next → Appends out len t out′ next
+retold {out} {out′} {len} {next} e p = subst (λ (w : List ℕ). Appends out len w out′ next) e p
 
-pub room-first : {out : List ℕ} {len : ℕ} {s : List ℕ} (t : List ℕ) → Room out len (s ++ t) → Room out len s
+pub room-first : {out : List ℕ} {len : ℕ} {s : List ℕ} (t : List ℕ) → BytesFit out len (s ++ t) → BytesFit out len s
 room-first {s = s} t room = record { fits = omega (arith, room .fits, length-append s t) }
 
 pub room-after :
     {out out′ : List ℕ} {len next : ℕ} {s : List ℕ} {t : List ℕ}
-    → Room out len (s ++ t)
-    → Puts out len s out′ next
-    → Room out′ next t
+    → BytesFit out len (s ++ t)
+    → Appends out len s out′ next
+    → BytesFit out′ next t
 room-after {s = s} {t = t} room p = record { fits = omega (arith, room .fits, p .long, p .ends, length-append s t) }
 
-pub room-retold : {out : List ℕ} {len : ℕ} {s t : List ℕ} → s ≡ t → Room out len s → Room out len t
-room-retold {out} {len} e room = subst (Room out len) e room
+pub room-retold : {out : List ℕ} {len : ℕ} {s t : List ℕ} → s ≡ t → BytesFit out len s → BytesFit out len t
+room-retold {out} {len} e room = subst (BytesFit out len) e room
 
 -- one byte more of a word
 pub word-more :
     {out out′ out″ : List ℕ} {len next end : ℕ} (word : List ℕ) (i : ℕ)
     → i < length word
-    → Puts out len (take i word) out′ next
-    → Puts out′ next (getD word i 0 ∷ []) out″ end
-    → Puts out len (take (i + 1) word) out″ end
+    → Appends out len (take i word) out′ next
+    → Appends out′ next (getD word i 0 ∷ []) out″ end
+    → Appends out len (take (i + 1) word) out″ end
 word-more word i h p q = retold (sym (rw add-one (take-suc word i 0 h))) (then p q)
 
 pub word-room :
     {out out′ : List ℕ} {len next b : ℕ} (word : List ℕ) (i : ℕ)
     → i < length word
-    → Room out len word
-    → Puts out len (take i word) out′ next
-    → Room out′ next (b ∷ [])
+    → BytesFit out len word
+    → Appends out len (take i word) out′ next
+    → BytesFit out′ next (b ∷ [])
 word-room word i h room p =
     record { fits = omega (arith, room .fits, p .long, p .ends, length-take-le i word (omega arith)) }
 
@@ -94,16 +94,16 @@ atom-out m i e = simp e
 -- one atom more
 pub atoms-more :
     {out out′ out″ : List ℕ} {len next end : ℕ} (m : List ℕ) (i : ℕ)
-    → Puts out len (spacedAll (inAtoms i m)) out′ next
-    → Puts out′ next (spacedAll (inAtom m i)) out″ end
-    → Puts out len (spacedAll (inAtoms (i + 1) m)) out″ end
+    → Appends out len (spacedAll (inAtoms i m)) out′ next
+    → Appends out′ next (spacedAll (inAtom m i)) out″ end
+    → Appends out len (spacedAll (inAtoms (i + 1) m)) out″ end
 unfolding inAtoms
 atoms-more m i p q = retold (rw (add-one i) (sym (spaced-join (inAtoms i m) (inAtom m i)))) (then p q)
 
 pub atoms-room :
     {out out′ : List ℕ} {len next n : ℕ} (m : List ℕ) (i : ℕ)
     → i < n
-    → RoomForAtoms out len n
-    → Puts out len (spacedAll (inAtoms i m)) out′ next
-    → Room out′ next (spaced (suc i))
+    → AtomsFit out len n
+    → Appends out len (spacedAll (inAtoms i m)) out′ next
+    → BytesFit out′ next (spaced (suc i))
 atoms-room {n = n} m i h room p = record { fits = omega (arith, room .fits, p .long, p .ends, atoms-fit m i n h) }

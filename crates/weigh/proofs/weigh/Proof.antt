@@ -5,8 +5,8 @@ use mathlib.Core.Path.{_≡_}
 use native.Mathlib.Omega.{arith}
 use Rattle.rules.specs.Stable.{gain}
 use Rattle.rules.specs.Map.{side}
-use Rattle.table.specs.Words.{seg}
-use Rattle.weigh.specs.Weigh.{sees}
+use Rattle.table.specs.inner.Words.{seg}
+use Rattle.weigh.specs.inner.Weigh.{sees}
 use denote.Ref.{now}
 use Rattle.rules.specs.Limits.{atomsMost, weightMost}
 use Rattle.table.proofs.Words.{gain-next, gain-done, seg-light}

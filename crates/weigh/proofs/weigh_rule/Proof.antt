@@ -5,7 +5,7 @@ use mathlib.Core.Bool.{true, false}
 use denote.Ref.{now}
 use Rattle.rules.specs.Limits.{atomsMost, weightMost}
 use Rattle.rules.specs.Map.{side}
-use Rattle.weigh.specs.Weigh.{sees}
+use Rattle.weigh.specs.inner.Weigh.{sees}
 use Rattle.weigh.proofs.Weights.{seg-cast, value-runs, value-light}
 use Rattle.weigh.proofs.weigh_rule.Statement.{statement}
 use Rattle.weigh.proofs.weigh_rule.Tie as tie

@@ -1,6 +1,6 @@
 -- `code` meets its contract: the remainders fit, and so does their sum.
 use mathlib.Core.Path.{refl}
-use Rattle.archive.specs.Code.{code}
+use Rattle.archive.specs.Code.{coded}
 use borrow.Author.Needs.{needs}
 use Rattle.archive.proofs.code.code.Statement.{statement}
 use Rattle.archive.proofs.code.code.Tie as tie
@@ -12,7 +12,7 @@ add-result : tie.Need-add-result
 add-result c = search needs
 
 returns : tie.Need-returns
-unfolding code
+unfolding coded
 returns c = refl
 
 pub code-spec : {M : Type 1} → statement M

@@ -1,6 +1,6 @@
 -- `of_checked` meets its contract: each case has its code.
 use mathlib.Core.Path.{sym, _∙_, ap}
-use Rattle.archive.specs.Code.{code, codeChecked}
+use Rattle.archive.specs.Code.{coded, codeChecked}
 use borrow.Author.Needs.{needs}
 use Rattle.archive.proofs.code.of_checked.Statement.{statement}
 use Rattle.archive.proofs.code.of_checked.Tie as tie
@@ -23,7 +23,7 @@ of-refusal-requires c κs = search needs
 returns : tie.Need-returns
 returns c =
     c .code .ensures
-    ∙ ap (code 32) (c .before .counts .ensures)
+    ∙ ap (coded 32) (c .before .counts .ensures)
     ∙ ap codeChecked (sym (c .before .before .before .answer .given .1))
 
 returns-2 : tie.Need-returns-2

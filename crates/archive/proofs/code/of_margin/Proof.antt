@@ -2,7 +2,7 @@
 use mir.Syntax.{w64}
 use mir.ValLaws.{toZ-ofZ}
 use mathlib.Core.Path.{sym, _∙_, ap}
-use Rattle.archive.specs.Code.{code, raised, codeMargin}
+use Rattle.archive.specs.Code.{coded, raised, codeMargin}
 use borrow.Author.Needs.{needs}
 use Rattle.archive.proofs.code.of_margin.Statement.{statement}
 use Rattle.archive.proofs.code.of_margin.Tie as tie
@@ -26,7 +26,7 @@ returns : tie.Need-returns
 returns c =
     let fits = c .before .before .known-told .given .0 .1 in
     c .code .ensures
-    ∙ ap (code 39) (c .before .raised .ensures ∙ ap raised (toZ-ofZ w64 _ (record { sfits = fits })))
+    ∙ ap (coded 39) (c .before .raised .ensures ∙ ap raised (toZ-ofZ w64 _ (record { sfits = fits })))
     ∙ ap codeMargin (sym (c .before .before .before .answer .given .1))
 
 returns-2 : tie.Need-returns-2

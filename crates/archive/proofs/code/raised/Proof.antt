@@ -1,6 +1,7 @@
 -- `raised` meets its contract: each step fits, by the sign of the margin.
 use borrow.Author.Needs.{needs}
-use Rattle.archive.proofs.Raises.{up-cast, up-sum, up-raised, down-difference, down-cast, down-raised, down-none}
+use Rattle.rules.proofs.Signed.{up-cast, down-difference, down-cast}
+use Rattle.archive.proofs.Raises.{up-sum, up-raised, down-raised, down-none}
 use Rattle.archive.proofs.code.raised.Statement.{statement}
 use Rattle.archive.proofs.code.raised.Tie as tie
 

@@ -1,7 +1,7 @@
 -- `size` is safe: each step fits, by the sign of the margin.
 use borrow.Author.Needs.{needs}
 use native.Mathlib.Omega.{arith}
-use Rattle.archive.proofs.Raises.{up-cast, down-difference, down-cast, down-small}
+use Rattle.rules.proofs.Signed.{up-cast, down, down-difference, down-cast, down-size}
 use Rattle.cases.proofs.show.size.Statement.{statement}
 use Rattle.cases.proofs.show.size.Tie as tie
 
@@ -18,7 +18,15 @@ cast-result-2 : tie.Need-cast-result-2
 cast-result-2 c = down-cast (c .before .args .margin) (c .before .good .0) (c .if1 .left)
 
 add-result : tie.Need-add-result
-add-result c = record { fits = omega (arith, down-small (c .before .args .margin) (c .before .good .0) (c .if1 .left)) }
+add-result c =
+    record {
+      fits =
+          omega (
+            arith,
+            down-size (c .before .args .margin) (c .before .good .0) (c .if1 .left),
+            down (c .before .args .margin) (c .before .good .0) (c .if1 .left) .small,
+          );
+    }
 
 returns-2 : tie.Need-returns-2
 returns-2 c = search needs

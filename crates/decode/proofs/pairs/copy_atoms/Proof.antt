@@ -1,6 +1,6 @@
 -- `copy_atoms` meets its contract. The loop's invariant: what is left of the list, written from here on, is the whole list.
 use Prim.Native.Nat.{_≤_, _-_}
-use mathlib.Core.Path.{sym, ap, _∙_}
+use mathlib.Core.Path.{sym, ap, subst}
 use native.Mathlib.Nat.{sub-zero}
 use native.Mathlib.Omega.{arith}
 use borrow.Author.Needs.{needs}
@@ -8,59 +8,42 @@ use denote.Ref.{now}
 use Rattle.rules.specs.Limits.{numberMost}
 use Rattle.rules.specs.Rule.{ones}
 use Rattle.numbers.specs.Lists.{numbersFrom}
-use Rattle.numbers.proofs.number.Most.{number-most}
-use Rattle.decode.proofs.pairs.Copy.{Left, left-begin, left-turn, left-done, left-room, numbers-turn, numbers-out, numbers-over}
+use Rattle.numbers.specs.declared.Span.{Span}
+use Rattle.numbers.proofs.number.Taken.{taken-most}
+use Rattle.numbers.proofs.lists.Numbers.{numbers-turn, numbers-over}
+use Rattle.decode.proofs.pairs.Copy.{PairsLeft, pairs-begin, left-turn, left-done, left-room}
 use Rattle.decode.proofs.pairs.copy_atoms.Statement.{statement}
 use Rattle.decode.proofs.pairs.copy_atoms.Tie as tie
 
 abbrev Inv-loop : tie.InvT-loop
 Inv-loop s count first code₀ from at₀ j₀ counter₀ code at j counter =
-    (counter ≤ count) × Left code₀ from (ones (numbersFrom count s first)) code j (ones (numbersFrom (count - counter) s at))
+    (counter ≤ count) × PairsLeft code₀ from (ones (numbersFrom count s first)) code j (ones (numbersFrom (count - counter) s at))
 
 abbrev μ-loop : tie.MeasureT-loop
 μ-loop s count first code₀ from at₀ j₀ counter₀ code at j counter = count - counter
 
 loop-holds : tie.Need-loop-holds Inv-loop μ-loop
-loop-holds c = (search needs, left-begin (simp sub-zero))
+loop-holds c = (search needs, pairs-begin (simp sub-zero))
 
-read-number-requires : tie.Need-read-number-requires Inv-loop μ-loop
-read-number-requires c κs = search needs
-
-enum-known-got : tie.Need-enum-known-got Inv-loop μ-loop
-enum-known-got c = search needs
-
-enum-told : tie.Need-enum-told Inv-loop μ-loop
-enum-told c = search needs
-
-same-length : tie.Need-same-length Inv-loop μ-loop
-same-length c = c .before .before .before .before .loop .inv .1 .long
-
-returns : tie.Need-returns Inv-loop μ-loop
-returns c =
-    let l = c .before .before .before .before .loop in
-    let a = c .before .before .before .before .before .before .before .args in
-    left-done (l .inv .1)
-    (ap ones
-    (numbers-out (now (a .s)) (a .count) (l .counter) (l .at) (c .before .before .before .loop-test .taken)
-    (c .before .before .read-number .ensures)
-    _
-    (c .enum-told .given .1)))
+take-number-requires : tie.Need-take-number-requires Inv-loop μ-loop
+take-number-requires c κs = search needs
 
 write-pair-requires : tie.Need-write-pair-requires Inv-loop μ-loop
 unfolding numberMost
 write-pair-requires c κs =
-    let l = c .before .before .before .before .before .before .loop in
-    let a = c .before .before .before .before .before .before .before .before .before .args in
-    let e = c .before .before .before .before .read-number .ensures in
+    let taken = c .before in
+    let l = taken .before .before .loop in
+    let start = taken .before .before .before .before .before in
+    let a = start .args in
     record {
       room =
           left-room (l .inv .1)
           (ap ones
-          (numbers-turn (now (a .s)) (a .count) (l .counter) (l .at) (c .before .before .before .before .before .loop-test .taken) e _
-          (c .before .before .got .given .1)))
-          (c .before .before .before .before .before .before .before .before .before .pre);
-      atomMost = number-most (now (a .s)) (l .at) _ (sym e ∙ c .before .before .got .given .1);
-      weightMost = omega arith;
+          (numbers-turn (now (a .s)) (a .count) (l .counter) (l .at) (taken .before .loop-test .taken) (taken .take-number .ensures)))
+          (start .pre);
+      atomFits =
+          subst (λ (p : Span). p .value ≤ numberMost) (sym (taken .take-number .ensures)) (taken-most (now (a .s)) (l .at));
+      weightFits = omega arith;
     }
 
 add-counter : tie.Need-add-counter Inv-loop μ-loop
@@ -71,24 +54,22 @@ loop-less c = omega arith
 
 loop-again : tie.Need-loop-again Inv-loop μ-loop
 loop-again c =
-    let l = c .before .before .before .before .before .before .before .before .before .loop in
-    let a = c .before .before .before .before .before .before .before .before .before .before .before .before .args in (
+    let written = c .before .before in
+    let taken = written .before .before in
+    let l = taken .before .before .loop in
+    let a = taken .before .before .before .before .before .args in (
       omega arith,
       left-turn (l .inv .1)
           (ap ones
-          (numbers-turn (now (a .s)) (a .count) (l .counter) (l .at)
-          (c .before .before .before .before .before .before .before .before .loop-test .taken)
-          (c .before .before .before .before .before .before .before .read-number .ensures)
-          _
-          (c .before .before .before .before .before .got .given .1)))
-          (c .before .before .write-pair .ensures),
+          (numbers-turn (now (a .s)) (a .count) (l .counter) (l .at) (taken .before .loop-test .taken) (taken .take-number .ensures)))
+          (written .write-pair .ensures),
     )
 
-same-length-2 : tie.Need-same-length-2 Inv-loop μ-loop
-same-length-2 c = c .before .loop .inv .1 .long
+same-length : tie.Need-same-length Inv-loop μ-loop
+same-length c = c .before .loop .inv .1 .long
 
-returns-2 : tie.Need-returns-2 Inv-loop μ-loop
-returns-2 c =
+returns : tie.Need-returns Inv-loop μ-loop
+returns c =
     let l = c .before .loop in
     let a = c .before .before .before .before .args in
     left-done (l .inv .1) (ap ones (numbers-over (now (a .s)) (a .count) (l .counter) (l .at) (c .loop-test .left)))
@@ -100,14 +81,10 @@ copy-atoms-spec =
     Inv-loop
     μ-loop
     loop-holds
-    read-number-requires
-    enum-known-got
-    enum-told
-    same-length
-    returns
+    take-number-requires
     write-pair-requires
     add-counter
     loop-less
     loop-again
-    same-length-2
-    returns-2)
+    same-length
+    returns)

@@ -2,30 +2,30 @@
 use native.Mathlib.Omega.{arith}
 use borrow.Author.Needs.{needs}
 use denote.Ref.{now}
-use Rattle.table.specs.Words.{pairWidth}
+use Rattle.table.specs.inner.Words.{pairWidth}
 use Rattle.decode.proofs.pairs.Laws.{pair-put}
 use Rattle.decode.proofs.pairs.write_pair.Statement.{statement}
 use Rattle.decode.proofs.pairs.write_pair.Tie as tie
 
-mul-put : tie.Need-mul-put
+mul-set-word : tie.Need-mul-set-word
 unfolding pairWidth
-mul-put c = omega arith
+mul-set-word c = omega arith
 
-put-requires : tie.Need-put-requires
+set-word-requires : tie.Need-set-word-requires
 unfolding pairWidth
-put-requires c κs = omega arith
+set-word-requires c κs = omega arith
 
-mul-put-2 : tie.Need-mul-put-2
+mul-set-word-2 : tie.Need-mul-set-word-2
 unfolding pairWidth
-mul-put-2 c = omega arith
+mul-set-word-2 c = omega arith
 
-add-put : tie.Need-add-put
+add-set-word : tie.Need-add-set-word
 unfolding pairWidth
-add-put c = omega arith
+add-set-word c = omega arith
 
-put-requires-2 : tie.Need-put-requires-2
+set-word-requires-2 : tie.Need-set-word-requires-2
 unfolding pairWidth
-put-requires-2 c κs = omega (arith, c .before .before .before .put .kept)
+set-word-requires-2 c κs = omega (arith, c .before .before .before .set-word .kept)
 
 add-result : tie.Need-add-result
 unfolding pairWidth
@@ -38,8 +38,8 @@ returns : tie.Need-returns
 unfolding pairWidth
 returns c =
     let a = c .before .before .before .before .before .before .before .before .before .args in
-    pair-put (now (a .code)) (a .j) (a .atom) (a .weight) (c .before .before .before .before .before .before .put .ensures) (c .before .before .put2 .ensures)
+    pair-put (now (a .code)) (a .j) (a .atom) (a .weight) (c .before .before .before .before .before .before .set-word .ensures) (c .before .before .set-word2 .ensures)
 
 pub write-pair-spec : {M : Type 1} → statement M
 write-pair-spec =
-    tie.close (tie.spec mul-put put-requires mul-put-2 add-put put-requires-2 add-result same-length returns)
+    tie.close (tie.spec mul-set-word set-word-requires mul-set-word-2 add-set-word set-word-requires-2 add-result same-length returns)

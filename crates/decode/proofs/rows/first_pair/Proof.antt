@@ -2,7 +2,7 @@
 use native.Mathlib.Omega.{arith}
 use mathlib.Core.Path.{refl}
 use Rattle.rules.specs.Limits.{rulesMost}
-use Rattle.decode.specs.Rows.{firstPair}
+use Rattle.decode.specs.inner.Rows.{firstPair}
 use Rattle.decode.proofs.rows.first_pair.Statement.{statement}
 use Rattle.decode.proofs.rows.first_pair.Tie as tie
 

@@ -7,21 +7,26 @@ use Rattle.decode.proofs.rows.write_rule.Tie as tie
 
 copy-heads-requires : tie.Need-copy-heads-requires
 copy-heads-requires c κs =
-    let a = c .before .before .before .before .before .args in heads-ask (now (a .s)) (a .rule) (now (a .code)) (a .i) (a .j) (c .before .before .before .before .before .pre)
+    let start = c .before .before .before .before .before in
+    let a = start .args in
+    heads-ask (now (a .s)) (a .rule) (now (a .code)) (a .i) (a .j) (start .pre)
 
 copy-literals-requires : tie.Need-copy-literals-requires
 copy-literals-requires c κs =
-    let a = c .before .before .before .before .before .before .before .before .before .args in (
-      c .before .before .before .before .before .before .before .before .before .pre .meant .positive,
-      pos-ask (now (a .s)) (a .rule) (now (a .code)) (a .i) (a .j) (c .before .before .before .before .before .before .before .before .before .pre) (c .before .before .before .copy-heads .ensures),
-    )
+    let heads = c .before .before .before in
+    let start = heads .before .before .before .before .before .before in
+    let a = start .args in
+    (start .pre .meant .positive, pos-ask (now (a .s)) (a .rule) (now (a .code)) (a .i) (a .j) (start .pre) (heads .copy-heads .ensures))
 
 copy-literals-requires-2 : tie.Need-copy-literals-requires-2
 copy-literals-requires-2 c κs =
-    let a = c .before .before .before .before .before .before .before .before .before .before .before .before .before .args in (
-      c .before .before .before .before .before .before .before .before .before .before .before .before .before .pre .meant .negated,
-      neg-ask (now (a .s)) (a .rule) (now (a .code)) (a .i) (a .j) (c .before .before .before .before .before .before .before .before .before .before .before .before .before .pre) (c .before .before .before .before .before .before .before .copy-heads .ensures)
-          (c .before .before .before .copy-literals .ensures),
+    let pos = c .before .before .before in
+    let heads = pos .before .before .before .before in
+    let start = heads .before .before .before .before .before .before in
+    let a = start .args in (
+      start .pre .meant .negated,
+      neg-ask (now (a .s)) (a .rule) (now (a .code)) (a .i) (a .j) (start .pre) (heads .copy-heads .ensures)
+          (pos .copy-literals .ensures),
     )
 
 kind-number-requires : tie.Need-kind-number-requires
@@ -29,10 +34,14 @@ kind-number-requires c κs = search needs
 
 write-row-requires : tie.Need-write-row-requires
 write-row-requires c κs =
-    let a = c .before .before .before .before .before .before .before .before .before .before .before .before .before .before .before .before .before .before .args in
-    row-ask (now (a .s)) (a .rule) (now (a .code)) (a .i) (a .j) (c .before .before .before .before .before .before .before .before .before .before .before .before .before .before .before .before .before .before .pre) (c .before .before .before .before .before .before .before .before .before .before .before .before .copy-heads .ensures)
-    (c .before .before .before .before .before .before .before .before .copy-literals .ensures)
-    (c .before .before .before .before .copy-literals2 .ensures)
+    let neg = c .before .before .before .before in
+    let pos = neg .before .before .before .before in
+    let heads = pos .before .before .before .before in
+    let start = heads .before .before .before .before .before .before in
+    let a = start .args in
+    row-ask (now (a .s)) (a .rule) (now (a .code)) (a .i) (a .j) (start .pre) (heads .copy-heads .ensures)
+    (pos .copy-literals .ensures)
+    (neg .copy-literals2 .ensures)
     (c .kind-number .ensures)
 
 same-length : tie.Need-same-length
@@ -40,12 +49,18 @@ same-length c = search needs
 
 returns : tie.Need-returns
 returns c =
-    let a = c .before .before .before .before .before .before .before .before .before .before .before .before .before .before .before .before .before .before .before .before .before .args in
-    rule-made (now (a .s)) (a .rule) (now (a .code)) (a .i) (a .j) (c .before .before .before .before .before .before .before .before .before .before .before .before .before .before .before .before .before .before .before .before .before .pre) (c .before .before .before .before .before .before .before .before .before .before .before .before .before .before .before .copy-heads .ensures)
-    (c .before .before .before .before .before .before .before .before .before .before .before .copy-literals .ensures)
-    (c .before .before .before .before .before .before .before .copy-literals2 .ensures)
-    (c .before .before .before .kind-number .ensures)
-    (c .before .before .write-row .ensures)
+    let row = c .before .before in
+    let kind = row .before in
+    let neg = kind .before .before .before .before in
+    let pos = neg .before .before .before .before in
+    let heads = pos .before .before .before .before in
+    let start = heads .before .before .before .before .before .before in
+    let a = start .args in
+    rule-made (now (a .s)) (a .rule) (now (a .code)) (a .i) (a .j) (start .pre) (heads .copy-heads .ensures)
+    (pos .copy-literals .ensures)
+    (neg .copy-literals2 .ensures)
+    (kind .kind-number .ensures)
+    (row .write-row .ensures)
 
 pub write-rule-spec : {M : Type 1} → statement M
 write-rule-spec =

@@ -1,106 +1,90 @@
--- `write_rules` meets its contract. The loop's invariant: what is left of the rules, written from here on, is the whole table.
-use Prim.Native.Nat.{ℕ, _≤_, _-_}
-use mathlib.Core.Path.{_≡_, sym, _∙_, ap, subst}
-use mathlib.Core.List.{[]}
-use native.Mathlib.Nat.{sub-zero}
+-- `write_rules` meets its contract. The loop's invariant: what is left of the rules, written from here on, is the whole table, and is
+-- read without a refusal.
+use Prim.Native.Nat.{_-_}
 use native.Mathlib.Omega.{arith}
 use borrow.Author.Needs.{needs}
 use denote.Ref.{now}
-use Rattle.sheet.specs.Meaning.{rulesFrom}
-use Rattle.decode.specs.Rows.{firstPair, withRules, Room}
-use Rattle.decode.proofs.rows.Meant.{rule-meant}
-use Rattle.decode.proofs.rows.Left.{Left, left-begin, left-turn, left-done, end-room, rule-asks, rules-turn, rules-out, rules-over}
+use Rattle.rules.specs.Limits.{rulesMost}
+use Rattle.sheet.proofs.sheet.Ran.{sheet-ran}
+use Rattle.decode.proofs.rows.Writing.{Writing, writing-begin, not-refused, next-asks, writing-next, writing-done}
 use Rattle.decode.proofs.rows.write_rules.Statement.{statement}
 use Rattle.decode.proofs.rows.write_rules.Tie as tie
 
 abbrev Inv-loop : tie.InvT-loop
-Inv-loop s n count first code₀ at₀ j₀ i₀ code at j i =
-    (i ≤ count) × Left code₀ (firstPair count) (rulesFrom count s n first) code i j (rulesFrom (count - i) s n at)
+Inv-loop s sheet code₀ rules count at₀ j₀ i₀ code at j i = Writing s sheet code₀ code i j at
 
 abbrev μ-loop : tie.MeasureT-loop
-μ-loop s n count first code₀ at₀ j₀ i₀ code at j i = count - i
+μ-loop s sheet code₀ rules count at₀ j₀ i₀ code at j i = sheet .rules .value - i
 
 first-pair-requires : tie.Need-first-pair-requires Inv-loop μ-loop
-first-pair-requires c κs = c .before .before .pre .fewRules
+first-pair-requires c κs =
+    let start = c .before .before .before in
+    let ran = sheet-ran (now (start .args .s)) (start .args .sheet) (start .pre .accepted) in
+    omega (arith, ran .count, ran .wellFormed .count)
 
 loop-holds : tie.Need-loop-holds Inv-loop μ-loop
-loop-holds c =
-    (search needs, left-begin (now (c .before .before .before .args .code)) (firstPair (c .before .before .before .args .count)) _ (c .before .before .before .pre .room) (c .first-pair .ensures) (simp sub-zero))
+loop-holds c = writing-begin (c .before .before .before .before .pre) (c .first-pair .ensures)
 
 read-rule-requires : tie.Need-read-rule-requires Inv-loop μ-loop
 read-rule-requires c κs = search needs
 
-enum-known-got : tie.Need-enum-known-got Inv-loop μ-loop
-enum-known-got c = search needs
+enum-known-rule : tie.Need-enum-known-rule Inv-loop μ-loop
+enum-known-rule c = search needs
 
-enum-told : tie.Need-enum-told Inv-loop μ-loop
-enum-told c = search needs
-
-end-rows-requires : tie.Need-end-rows-requires Inv-loop μ-loop
-end-rows-requires c κs =
-    let l = c .before .before .before .before .before .loop in
-    let a = c .before .before .before .before .before .before .before .before .before .args in
-    end-room (l .inv .1)
-    (rules-out (now (a .s)) (a .n) (a .count) (l .i) (l .at) (c .before .before .before .before .loop-test .taken) (c .before .before .before .read-rule .ensures) _
-    (c .before .enum-told .given .1))
+enum-known-why : tie.Need-enum-known-why Inv-loop μ-loop
+enum-known-why c = search needs
 
 same-length : tie.Need-same-length Inv-loop μ-loop
-same-length c = omega (arith, c .before .before .end-rows .kept, c .before .before .before .before .before .before .before .before .loop .inv .1 .long)
+same-length c = c .before .before .before .before .before .loop .inv .left .long
 
 returns : tie.Need-returns Inv-loop μ-loop
 returns c =
-    let l = c .before .before .before .before .before .before .before .before .loop in
-    let a = c .before .before .before .before .before .before .before .before .before .before .before .before .args in
-    left-done (l .inv .1)
-    (rules-out (now (a .s)) (a .n) (a .count) (l .i) (l .at) (c .before .before .before .before .before .before .before .loop-test .taken) (c .before .before .before .before .before .before .read-rule .ensures) _
-    (c .before .before .before .before .enum-told .given .1))
-    (c .before .before .end-rows .ensures)
+    let read = c .before .before .before in
+    let l = read .before .before in
+    absurd
+    (not-refused (l .before .before .before .before .before .pre) (l .loop .inv) (read .before .loop-test .taken)
+    (read .read-rule .ensures)
+    _
+    (c .before .why .given .1))
 
 write-rule-requires : tie.Need-write-rule-requires Inv-loop μ-loop
 write-rule-requires c κs =
-    let l = c .before .before .before .before .before .before .loop in
-    let a = c .before .before .before .before .before .before .before .before .before .before .args in
-    let e = c .before .before .before .before .read-rule .ensures in
-    let g = c .before .before .got .given .1 in
-    rule-asks (l .inv .1) (now (a .s)) _
-    (rules-turn (now (a .s)) (a .n) (a .count) (l .i) (l .at) (c .before .before .before .before .before .loop-test .taken) e _ g)
-    (rule-meant (a .n) (c .before .before .before .before .before .before .before .before .before .before .pre .fewAtoms) (now (a .s)) (l .at) _ (sym e ∙ g))
+    let read = c .before .before .before .before in
+    let l = read .before .before in
+    next-asks (l .before .before .before .before .before .pre) (l .loop .inv) (read .before .loop-test .taken) (read .read-rule .ensures)
+    _
+    (c .before .before .rule .given .1)
 
 add-i : tie.Need-add-i Inv-loop μ-loop
-add-i c = omega arith
+unfolding rulesMost
+add-i c =
+    let l = c .before .before .before .before .before .before .before .before .before in
+    let start = l .before .before .before .before .before in
+    let ran = sheet-ran (now (start .args .s)) (start .args .sheet) (start .pre .accepted) in
+    omega (arith, ran .count, ran .wellFormed .count)
 
 loop-less : tie.Need-loop-less Inv-loop μ-loop
 loop-less c = omega arith
 
 loop-again : tie.Need-loop-again Inv-loop μ-loop
 loop-again c =
-    let l = c .before .before .before .before .before .before .before .before .before .loop in
-    let a = c .before .before .before .before .before .before .before .before .before .before .before .before .before .args in (
-      omega arith,
-      left-turn (l .inv .1) (now (a .s)) _
-          (rules-turn (now (a .s)) (a .n) (a .count) (l .i) (l .at) (c .before .before .before .before .before .before .before .before .loop-test .taken) (c .before .before .before .before .before .before .before .read-rule .ensures) _
-          (c .before .before .before .before .before .got .given .1))
-          (c .before .before .write-rule .ensures),
-    )
-
-end-rows-requires-2 : tie.Need-end-rows-requires-2 Inv-loop μ-loop
-end-rows-requires-2 c κs =
-    let l = c .before .before .loop in
-    let a = c .before .before .before .before .before .before .args in
-    let e : l .i ≡ a .count = omega (arith, c .before .loop-test .left, l .inv .0) in
-    subst (λ (i : ℕ). Room (l .code) i (l .j) []) e
-    (end-room (l .inv .1) (rules-over (now (a .s)) (a .n) (a .count) (l .i) (l .at) (c .before .loop-test .left)))
+    let written = c .before .before in
+    let found = written .before .before .before in
+    let read = found .before .before in
+    let l = read .before .before in
+    writing-next (l .before .before .before .before .before .pre) (l .loop .inv) (read .before .loop-test .taken)
+    (read .read-rule .ensures)
+    _
+    (found .rule .given .1)
+    (written .write-rule .ensures)
 
 same-length-2 : tie.Need-same-length-2 Inv-loop μ-loop
-same-length-2 c = omega (arith, c .before .before .end-rows2 .kept, c .before .before .before .before .before .loop .inv .1 .long)
+same-length-2 c = c .before .loop .inv .left .long
 
 returns-2 : tie.Need-returns-2 Inv-loop μ-loop
 returns-2 c =
-    let l = c .before .before .before .before .before .loop in
-    let a = c .before .before .before .before .before .before .before .before .before .args in
-    let e : a .count ≡ l .i = omega (arith, c .before .before .before .before .loop-test .left, l .inv .0) in
-    left-done (l .inv .1) (rules-over (now (a .s)) (a .n) (a .count) (l .i) (l .at) (c .before .before .before .before .loop-test .left))
-    (c .before .before .end-rows2 .ensures ∙ ap (λ (i : ℕ). withRules (l .code) i (l .j) []) e)
+    let l = c .before in
+    writing-done (l .before .before .before .before .before .pre) (l .loop .inv) (c .loop-test .left)
 
 pub write-rules-spec : {M : Type 1} → statement M
 write-rules-spec =
@@ -111,15 +95,13 @@ write-rules-spec =
     first-pair-requires
     loop-holds
     read-rule-requires
-    enum-known-got
-    enum-told
-    end-rows-requires
+    enum-known-rule
+    enum-known-why
     same-length
     returns
     write-rule-requires
     add-i
     loop-less
     loop-again
-    end-rows-requires-2
     same-length-2
     returns-2)

@@ -4,7 +4,7 @@ use Prim.Native.Nat.{_+_, _-_}
 use mathlib.Core.Path.{sym, _∙_}
 use native.Mathlib.Omega.{arith}
 use borrow.Author.Needs.{needs}
-use Rattle.forcing.specs.Ground.{Drops}
+use Rattle.forcing.specs.inner.Ground.{Drops}
 use Rattle.forcing.proofs.Founding.{drop-begin, drop-more, drop-clash, drop-end}
 use Rattle.forcing.proofs.ground.drop_all.Statement.{statement}
 use Rattle.forcing.proofs.ground.drop_all.Tie as tie

@@ -3,8 +3,8 @@ use denote.Ref.{now}
 use Prim.Native.Nat.{_<_}
 use mathlib.Core.Path.{sym, _∙_}
 use borrow.Author.Needs.{needs}
-use Rattle.weigh.specs.Step.{undecided}
-use Rattle.forcing.specs.Ground.{Founding}
+use Rattle.rules.specs.Map.{undecided}
+use Rattle.forcing.specs.inner.Ground.{Founding}
 use Rattle.forcing.proofs.Founding.{founding-begin, founding-more, founding-end}
 use Rattle.forcing.proofs.ground.founded.Statement.{statement}
 use Rattle.forcing.proofs.ground.founded.Tie as tie

@@ -6,11 +6,11 @@ use mathlib.Core.List.{List}
 use native.Mathlib.Omega.{arith}
 use borrow.Author.Needs.{needs}
 use Rattle.rules.specs.Map.{Map, side}
-use Rattle.table.specs.Rows.{ruleAt, rulesAt}
+use Rattle.table.specs.inner.Rows.{rowRule, tableRules}
 use Rattle.table.proofs.Rows.{rule-mem}
-use Rattle.weigh.specs.Step.{Step, Till}
-use Rattle.forcing.specs.Pass.{placed}
-use Rattle.forcing.specs.Ground.{Grounding, Grounded}
+use Rattle.weigh.specs.inner.Step.{Step, Till}
+use Rattle.forcing.specs.inner.Pass.{placed}
+use Rattle.forcing.specs.inner.Ground.{Grounding, Grounded}
 use Rattle.weigh.proofs.Steps.{quieter, steps-begin, steps-more, steps-end}
 use Rattle.forcing.proofs.Passes.{placed-less, visited, at-place}
 use Rattle.forcing.proofs.ground.ground_all.Statement.{statement}
@@ -18,11 +18,11 @@ use Rattle.forcing.proofs.ground.ground_all.Tie as tie
 
 -- what the k-th rule that is visited gives from U is in U
 abbrev Visited : List ℕ → ℕ → Bool → Map → ℕ → Map → Type 0
-Visited code count down M k = Grounded (ruleAt code (placed down count k)) M
+Visited code count down M k = Grounded (rowRule code (placed down count k)) M
 
 abbrev Inv-loop : tie.InvT-loop
 Inv-loop code n count down m u₀ all₀ i₀ u all i =
-    Step (Grounding (rulesAt code count) (side n m)) n (Till (Visited code count down (side n m)) 0 i) u₀ u all
+    Step (Grounding (tableRules code count) (side n m)) n (Till (Visited code count down (side n m)) 0 i) u₀ u all
 
 abbrev μ-loop : tie.MeasureT-loop
 μ-loop code n count down m u₀ all₀ i₀ u all i = count - i
@@ -30,7 +30,7 @@ abbrev μ-loop : tie.MeasureT-loop
 loop-holds : tie.Need-loop-holds Inv-loop μ-loop
 loop-holds c =
     let a = c .before .before .before .args in
-    steps-begin (Grounding (rulesAt (now (a .code)) (a .count)) (side (a .n) (now (a .m)))) (a .n)
+    steps-begin (Grounding (tableRules (now (a .code)) (a .count)) (side (a .n) (now (a .m)))) (a .n)
     (Visited (now (a .code)) (a .count) (a .down) (side (a .n) (now (a .m)))) 0 (now (a .u)) (c .before .before .before .pre .1 .1)
 
 place-requires : tie.Need-place-requires Inv-loop μ-loop
@@ -62,14 +62,14 @@ loop-less c = omega arith
 loop-again : tie.Need-loop-again Inv-loop μ-loop
 loop-again c =
     let a = c .before .before .before .before .before .before .before .before .before .before .before .args in
-    steps-more (Grounding (rulesAt (now (a .code)) (a .count)) (side (a .n) (now (a .m)))) (a .n)
+    steps-more (Grounding (tableRules (now (a .code)) (a .count)) (side (a .n) (now (a .m)))) (a .n)
     (Visited (now (a .code)) (a .count) (a .down) (side (a .n) (now (a .m)))) 0 (c .before .before .before .before .before .before .before .loop .i) (now (a .u)) _ _ _ _ _
     (c .before .before .before .before .before .before .before .loop .inv) (c .before .before .before .ground .ensures .kept)
     (λ up.
-    at-place (Grounding (rulesAt (now (a .code)) (a .count)) (side (a .n) (now (a .m)))) (a .n)
-    (λ x. Grounded (ruleAt (now (a .code)) x) (side (a .n) (now (a .m))))
+    at-place (Grounding (tableRules (now (a .code)) (a .count)) (side (a .n) (now (a .m)))) (a .n)
+    (λ x. Grounded (rowRule (now (a .code)) x) (side (a .n) (now (a .m))))
     (c .before .before .before .before .before .place .ensures)
-    (c .before .before .before .ground .ensures .step (rulesAt (now (a .code)) (a .count))
+    (c .before .before .before .ground .ensures .step (tableRules (now (a .code)) (a .count))
     (rule-mem (now (a .code)) (a .count) (c .before .before .before .before .before .place .result) (row (c .before .before .before .before .before)))))
     (c .join .ensures)
 
@@ -79,11 +79,11 @@ same-length c = c .before .loop .inv .kept .long
 returns : tie.Need-returns Inv-loop μ-loop
 returns c =
     let a = c .before .before .before .before .before .args in
-    quieter (Grounding (rulesAt (now (a .code)) (a .count)) (side (a .n) (now (a .m)))) (a .n)
+    quieter (Grounding (tableRules (now (a .code)) (a .count)) (side (a .n) (now (a .m)))) (a .n)
     (Till (Visited (now (a .code)) (a .count) (a .down) (side (a .n) (now (a .m)))) 0 (a .count))
-    (Till (λ k. Grounded (ruleAt (now (a .code)) k) (side (a .n) (now (a .m)))) 0 (a .count)) _ _ _
-    (visited (λ k. Grounded (ruleAt (now (a .code)) k) (side (a .n) (now (a .m)))) (a .down) (a .count) _)
-    (steps-end (Grounding (rulesAt (now (a .code)) (a .count)) (side (a .n) (now (a .m)))) (a .n)
+    (Till (λ k. Grounded (rowRule (now (a .code)) k) (side (a .n) (now (a .m)))) 0 (a .count)) _ _ _
+    (visited (λ k. Grounded (rowRule (now (a .code)) k) (side (a .n) (now (a .m)))) (a .down) (a .count) _)
+    (steps-end (Grounding (tableRules (now (a .code)) (a .count)) (side (a .n) (now (a .m)))) (a .n)
     (Visited (now (a .code)) (a .count) (a .down) (side (a .n) (now (a .m)))) 0 (a .count) (c .before .loop .i) _ _ _
     (c .loop-test .left) (c .before .loop .inv))
 

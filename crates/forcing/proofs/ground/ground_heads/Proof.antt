@@ -5,8 +5,8 @@ use mathlib.Core.Path.{sym, subst}
 use native.Mathlib.Omega.{arith}
 use borrow.Author.Needs.{needs}
 use Rattle.rules.specs.Rule.{Within}
-use Rattle.table.specs.Rows.{headsAt}
-use Rattle.forcing.specs.Ground.{GroundsHeads}
+use Rattle.table.specs.inner.Rows.{headsAt}
+use Rattle.forcing.specs.inner.Ground.{GroundsHeads}
 use Rattle.forcing.proofs.Groundings.{heads-begin, heads-more, heads-end}
 use Rattle.forcing.proofs.ground.ground_heads.Statement.{statement}
 use Rattle.forcing.proofs.ground.ground_heads.Tie as tie

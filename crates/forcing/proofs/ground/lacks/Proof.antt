@@ -4,8 +4,8 @@ use Prim.Native.Nat.{_-_, _≤_}
 use native.Mathlib.Omega.{arith}
 use borrow.Author.Needs.{needs}
 use Rattle.rules.specs.Map.{side}
-use Rattle.table.specs.Rows.{headsAt}
-use Rattle.forcing.specs.Ground.{Unless}
+use Rattle.table.specs.inner.Rows.{headsAt}
+use Rattle.forcing.specs.inner.Ground.{Unless}
 use Rattle.forcing.proofs.HeadScans.{Sofar}
 use Rattle.forcing.proofs.Groundings.{lacks-more, lacks-none}
 use Rattle.forcing.proofs.ground.lacks.Statement.{statement}

@@ -3,7 +3,7 @@ use borrow.Author.Needs.{needs}
 use mathlib.Core.Path.{sym, _∙_, ap, subst}
 use denote.Ref.{now}
 use Rattle.rules.specs.Rule.{Within}
-use Rattle.table.specs.Words.{atomAt}
+use Rattle.table.specs.inner.Words.{pairAtom}
 use Rattle.forcing.proofs.Settling.{head-within, must-give, settle-choice, settle-in}
 use Rattle.forcing.proofs.heads.settle.Statement.{statement}
 use Rattle.forcing.proofs.heads.settle.Tie as tie
@@ -28,7 +28,7 @@ side-of-requires c κs =
     let a = c .before .before .before .before .before .before .before .args in
     record {
       within = subst (Within (a .n))
-          (sym (c .before .atom-at .ensures ∙ ap (atomAt (now (a .code))) (c .before .before .heads-at .ensures)))
+          (sym (c .before .atom-at .ensures ∙ ap (pairAtom (now (a .code))) (c .before .before .heads-at .ensures)))
           (head-within (now (a .code)) (a .n) (a .i) (now (a .m))
           (c .before .before .before .before .before .before .before .pre .0)
           (must-give _ _ (c .before .before .before .before .is-choice .ensures) (c .before .before .before .if1 .left)));
@@ -46,7 +46,7 @@ returns-2 c =
     (must-give _ _ (c .before .before .before .before .before .before .is-choice .ensures)
     (c .before .before .before .before .before .if1 .left))
     _ _
-    (c .before .before .before .atom-at .ensures ∙ ap (atomAt (now (a .code)))
+    (c .before .before .before .atom-at .ensures ∙ ap (pairAtom (now (a .code)))
     (c .before .before .before .before .heads-at .ensures))
     (c .before .side-of .ensures) (c .if2 .taken)
     (c .before .before .before .before .before .before .before .before .before .pre .1)
@@ -62,7 +62,7 @@ settle-head-requires c κs =
           (must-give _ _ (c .before .before .before .before .before .before .before .is-choice .ensures)
           (c .before .before .before .before .before .before .if1 .left));
       its =
-          (c .before .before .before .before .atom-at .ensures ∙ ap (atomAt (now (a .code)))
+          (c .before .before .before .before .atom-at .ensures ∙ ap (pairAtom (now (a .code)))
           (c .before .before .before .before .before .heads-at .ensures));
       stands = c .before .before .side-of .ensures;
     }

@@ -9,11 +9,11 @@ use borrow.Author.Needs.{needs}
 use denote.Ref.{now}
 use Rattle.rules.specs.Map.{Map}
 use Rattle.rules.specs.Forcing.{Closed}
-use Rattle.table.specs.Rows.{ruleAt, rulesAt}
+use Rattle.table.specs.inner.Rows.{rowRule, tableRules}
 use Rattle.table.proofs.Rows.{rule-mem}
-use Rattle.weigh.specs.Step.{Step, Till}
-use Rattle.forcing.specs.Pass.{placed}
-use Rattle.forcing.specs.Heads.{Settled}
+use Rattle.weigh.specs.inner.Step.{Step, Till}
+use Rattle.forcing.specs.inner.Pass.{placed}
+use Rattle.forcing.specs.inner.Heads.{Settled}
 use Rattle.weigh.proofs.Steps.{clash-any, quieter, steps-begin, steps-more, steps-end}
 use Rattle.forcing.proofs.Passes.{placed-less, visited, at-place}
 use Rattle.forcing.proofs.heads.settle_all.Statement.{statement}
@@ -21,11 +21,11 @@ use Rattle.forcing.proofs.heads.settle_all.Tie as tie
 
 -- the k-th rule that is visited is settled
 abbrev Visited : List ℕ → ℕ → Bool → ℕ → Map → Type 0
-Visited code count down k = Settled (ruleAt code (placed down count k))
+Visited code count down k = Settled (rowRule code (placed down count k))
 
 abbrev Inv-loop : tie.InvT-loop
 Inv-loop code n count down m₀ all₀ i₀ m all i =
-    Step (Closed (rulesAt code count) n) n (Till (Visited code count down) 0 i) m₀ m all
+    Step (Closed (tableRules code count) n) n (Till (Visited code count down) 0 i) m₀ m all
 
 abbrev μ-loop : tie.MeasureT-loop
 μ-loop code n count down m₀ all₀ i₀ m all i = count - i
@@ -33,7 +33,7 @@ abbrev μ-loop : tie.MeasureT-loop
 loop-holds : tie.Need-loop-holds Inv-loop μ-loop
 loop-holds c =
     let a = c .before .before .args in
-    steps-begin (Closed (rulesAt (now (a .code)) (a .count)) (a .n)) (a .n) (Visited (now (a .code)) (a .count) (a .down)) 0
+    steps-begin (Closed (tableRules (now (a .code)) (a .count)) (a .n)) (a .n) (Visited (now (a .code)) (a .count) (a .down)) 0
     (now (a .m)) (c .before .before .pre .1)
 
 place-requires : tie.Need-place-requires Inv-loop μ-loop
@@ -57,17 +57,17 @@ is-clash-requires c κs = search needs
 -- one rule more
 turn :
     (c : tie.After-join Inv-loop μ-loop)
-    → Step (Closed (rulesAt (now (c .before .before .before .before .before .before .before .before .before .before .args .code)) (c .before .before .before .before .before .before .before .before .before .before .args .count)) (c .before .before .before .before .before .before .before .before .before .before .args .n)) (c .before .before .before .before .before .before .before .before .before .before .args .n)
+    → Step (Closed (tableRules (now (c .before .before .before .before .before .before .before .before .before .before .args .code)) (c .before .before .before .before .before .before .before .before .before .before .args .count)) (c .before .before .before .before .before .before .before .before .before .before .args .n)) (c .before .before .before .before .before .before .before .before .before .before .args .n)
     (Till (Visited (now (c .before .before .before .before .before .before .before .before .before .before .args .code)) (c .before .before .before .before .before .before .before .before .before .before .args .count) (c .before .before .before .before .before .before .before .before .before .before .args .down)) 0 (c .before .before .before .before .before .before .before .loop .i + 1))
     (now (c .before .before .before .before .before .before .before .before .before .before .args .m)) (c .before .before .before .settle .last .1 .1 .1 .0) (c .join .result)
 turn c =
     let a = c .before .before .before .before .before .before .before .before .before .before .args in
-    steps-more (Closed (rulesAt (now (a .code)) (a .count)) (a .n)) (a .n) (Visited (now (a .code)) (a .count) (a .down)) 0
+    steps-more (Closed (tableRules (now (a .code)) (a .count)) (a .n)) (a .n) (Visited (now (a .code)) (a .count) (a .down)) 0
     (c .before .before .before .before .before .before .before .loop .i) (now (a .m)) _ _ _ _ _ (c .before .before .before .before .before .before .before .loop .inv) (c .before .before .before .settle .ensures .kept)
     (λ up.
-    at-place (Closed (rulesAt (now (a .code)) (a .count)) (a .n)) (a .n) (λ x. Settled (ruleAt (now (a .code)) x))
+    at-place (Closed (tableRules (now (a .code)) (a .count)) (a .n)) (a .n) (λ x. Settled (rowRule (now (a .code)) x))
     (c .before .before .before .before .before .place .ensures)
-    (c .before .before .before .settle .ensures .step (rulesAt (now (a .code)) (a .count))
+    (c .before .before .before .settle .ensures .step (tableRules (now (a .code)) (a .count))
     (rule-mem (now (a .code)) (a .count) (c .before .before .before .before .before .place .result) (row (c .before .before .before .before .before)))))
     (c .join .ensures)
 
@@ -77,7 +77,7 @@ same-length c = turn (c .before .before) .kept .long
 returns : tie.Need-returns Inv-loop μ-loop
 returns c =
     let a = c .before .before .before .before .before .before .before .before .before .before .before .before .args in
-    clash-any (Closed (rulesAt (now (a .code)) (a .count)) (a .n)) (a .n) _ _ _ _ _
+    clash-any (Closed (tableRules (now (a .code)) (a .count)) (a .n)) (a .n) _ _ _ _ _
     (sym (c .before .is-clash .ensures) ∙ c .if1 .taken) (turn (c .before .before))
 
 add-i : tie.Need-add-i Inv-loop μ-loop
@@ -95,10 +95,10 @@ same-length-2 c = c .before .loop .inv .kept .long
 returns-2 : tie.Need-returns-2 Inv-loop μ-loop
 returns-2 c =
     let a = c .before .before .before .before .args in
-    quieter (Closed (rulesAt (now (a .code)) (a .count)) (a .n)) (a .n)
-    (Till (Visited (now (a .code)) (a .count) (a .down)) 0 (a .count)) (Till (λ k. Settled (ruleAt (now (a .code)) k)) 0 (a .count))
-    _ _ _ (visited (λ k. Settled (ruleAt (now (a .code)) k)) (a .down) (a .count) _)
-    (steps-end (Closed (rulesAt (now (a .code)) (a .count)) (a .n)) (a .n) (Visited (now (a .code)) (a .count) (a .down)) 0
+    quieter (Closed (tableRules (now (a .code)) (a .count)) (a .n)) (a .n)
+    (Till (Visited (now (a .code)) (a .count) (a .down)) 0 (a .count)) (Till (λ k. Settled (rowRule (now (a .code)) k)) 0 (a .count))
+    _ _ _ (visited (λ k. Settled (rowRule (now (a .code)) k)) (a .down) (a .count) _)
+    (steps-end (Closed (tableRules (now (a .code)) (a .count)) (a .n)) (a .n) (Visited (now (a .code)) (a .count) (a .down)) 0
     (a .count) (c .before .loop .i) _ _ _ (c .loop-test .left) (c .before .loop .inv))
 
 pub settle-all-spec : {M : Type 1} → statement M

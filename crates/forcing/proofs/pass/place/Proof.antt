@@ -2,7 +2,7 @@
 use mathlib.Core.Path.{sym, ap}
 use mathlib.Core.Bool.{Bool}
 use native.Mathlib.Omega.{arith}
-use Rattle.forcing.specs.Pass.{placed}
+use Rattle.forcing.specs.inner.Pass.{placed}
 use Rattle.forcing.proofs.pass.place.Statement.{statement}
 use Rattle.forcing.proofs.pass.place.Tie as tie
 

@@ -6,9 +6,9 @@ use native.Mathlib.Omega.{arith}
 use borrow.Author.Needs.{needs}
 use Rattle.rules.specs.Map.{side}
 use Rattle.rules.specs.Forcing.{Closed}
-use Rattle.table.specs.Rows.{ruleAt, rulesAt}
+use Rattle.table.specs.inner.Rows.{rowRule, tableRules}
 use Rattle.table.proofs.Rows.{rule-mem}
-use Rattle.forcing.specs.Support.{Counts, Backed, BacksAll}
+use Rattle.forcing.specs.inner.Support.{Counts, Backed, BacksAll}
 use Rattle.weigh.proofs.Steps.{clash-any, steps-begin, steps-more, steps-end}
 use Rattle.forcing.proofs.support.back_all.Statement.{statement}
 use Rattle.forcing.proofs.support.back_all.Tie as tie
@@ -22,9 +22,9 @@ abbrev μ-loop : tie.MeasureT-loop
 loop-holds : tie.Need-loop-holds Inv-loop μ-loop
 loop-holds c =
     let a = c .before .before .before .args in
-    steps-begin (Closed (rulesAt (now (a .code)) (a .count)) (a .n)) (a .n)
-    (λ k M. Counts (rulesAt (now (a .code)) (a .count)) (a .n) M (now (a .counts)) → Backed (rulesAt (now (a .code)) (a .count))
-    (ruleAt (now (a .code)) k) M)
+    steps-begin (Closed (tableRules (now (a .code)) (a .count)) (a .n)) (a .n)
+    (λ k M. Counts (tableRules (now (a .code)) (a .count)) (a .n) M (now (a .counts)) → Backed (tableRules (now (a .code)) (a .count))
+    (rowRule (now (a .code)) k) M)
     0 (now (a .m)) (c .before .before .before .pre .1 .1 .0)
 
 back-requires : tie.Need-back-requires Inv-loop μ-loop
@@ -55,13 +55,13 @@ turn :
     (c .before .before .before .back .last .1 .1 .1 .1 .0) (c .join .result)
 turn c =
     let a = c .before .before .before .before .before .before .before .before .before .before .args in
-    steps-more (Closed (rulesAt (now (a .code)) (a .count)) (a .n)) (a .n)
-    (λ k M. Counts (rulesAt (now (a .code)) (a .count)) (a .n) M (now (a .counts)) → Backed (rulesAt (now (a .code)) (a .count))
-    (ruleAt (now (a .code)) k) M)
+    steps-more (Closed (tableRules (now (a .code)) (a .count)) (a .n)) (a .n)
+    (λ k M. Counts (tableRules (now (a .code)) (a .count)) (a .n) M (now (a .counts)) → Backed (tableRules (now (a .code)) (a .count))
+    (rowRule (now (a .code)) k) M)
     0 (c .before .before .before .before .before .before .loop .i) (now (a .m)) _ _ _ _ _
     (c .before .before .before .before .before .before .loop .inv) (c .before .before .before .back .ensures .kept)
     (λ up.
-    c .before .before .before .back .ensures .step (rulesAt (now (a .code)) (a .count))
+    c .before .before .before .back .ensures .step (tableRules (now (a .code)) (a .count))
     (rule-mem (now (a .code)) (a .count) (c .before .before .before .before .before .before .loop .i)
     (c .before .before .before .before .before .loop-test .taken))
     (side (a .n) (now (a .m))) up (c .before .before .before .before .before .before .before .before .before .before .pre .1 .1 .1))
@@ -73,7 +73,7 @@ same-length c = turn (c .before .before) .kept .long
 returns : tie.Need-returns Inv-loop μ-loop
 returns c =
     let a = c .before .before .before .before .before .before .before .before .before .before .before .before .args in
-    clash-any (Closed (rulesAt (now (a .code)) (a .count)) (a .n)) (a .n) _ _ _ _ _
+    clash-any (Closed (tableRules (now (a .code)) (a .count)) (a .n)) (a .n) _ _ _ _ _
     (sym (c .before .is-clash .ensures) ∙ c .if1 .taken) (turn (c .before .before))
 
 add-i : tie.Need-add-i Inv-loop μ-loop
@@ -91,9 +91,9 @@ same-length-2 c = c .before .loop .inv .kept .long
 returns-2 : tie.Need-returns-2 Inv-loop μ-loop
 returns-2 c =
     let a = c .before .before .before .before .before .args in
-    steps-end (Closed (rulesAt (now (a .code)) (a .count)) (a .n)) (a .n)
-    (λ k M. Counts (rulesAt (now (a .code)) (a .count)) (a .n) M (now (a .counts)) → Backed (rulesAt (now (a .code)) (a .count))
-    (ruleAt (now (a .code)) k) M)
+    steps-end (Closed (tableRules (now (a .code)) (a .count)) (a .n)) (a .n)
+    (λ k M. Counts (tableRules (now (a .code)) (a .count)) (a .n) M (now (a .counts)) → Backed (tableRules (now (a .code)) (a .count))
+    (rowRule (now (a .code)) k) M)
     0 (a .count) (c .before .loop .i) _ _ _ (c .loop-test .left) (c .before .loop .inv)
 
 pub back-all-spec : {M : Type 1} → statement M

@@ -12,8 +12,8 @@ use lib.ListN.{set}
 use Rattle.rules.specs.Limits.{rulesMost}
 use Rattle.rules.specs.Rule.{Within}
 use Rattle.rules.specs.Map.{side, is}
-use Rattle.table.specs.Words.{atomAt}
-use Rattle.forcing.specs.Support.{Adds}
+use Rattle.table.specs.inner.Words.{pairAtom}
+use Rattle.forcing.specs.inner.Support.{Adds}
 use Rattle.forcing.proofs.Counting.{pair-in, pair-not-in}
 use Rattle.forcing.proofs.support.count_pair.Statement.{statement}
 use Rattle.forcing.proofs.support.count_pair.Tie as tie
@@ -28,7 +28,7 @@ side-of-requires c κs =
 returns : tie.Need-returns
 returns c =
     let a = c .before .before .before .before .before .before .args in
-    pair-not-in (a .n) (now (a .counts)) (atomAt (now (a .code)) (a .j)) (c .before .before .before .before .before .before .pre .0 .within) (c .before .before .before .before .before .before .pre .1 .small .room)
+    pair-not-in (a .n) (now (a .counts)) (pairAtom (now (a .code)) (a .j)) (c .before .before .before .before .before .before .pre .0 .within) (c .before .before .before .before .before .before .pre .1 .small .room)
     (side (a .n) (now (a .m)))
     (λ e. c .if1 .taken (c .before .side-of .ensures ∙ ap (side (a .n) (now (a .m))) (c .before .before .atom-at .ensures) ∙ e))
 
@@ -50,7 +50,7 @@ add-counts c =
       arith,
       c .count-of .ensures,
       ap (side (a .n) (now (a .counts))) (c .before .before .before .before .atom-at .ensures),
-      c .before .before .before .before .before .before .before .before .pre .1 .small .small (atomAt (now (a .code)) (a .j)) (c .before .before .before .before .before .before .before .before .pre .0 .within),
+      c .before .before .before .before .before .before .before .before .pre .1 .small .small (pairAtom (now (a .code)) (a .j)) (c .before .before .before .before .before .before .before .before .pre .0 .within),
     )
 
 mul-counts : tie.Need-mul-counts
@@ -65,7 +65,7 @@ same-length c = search needs
 returns-2 : tie.Need-returns-2
 returns-2 c =
     let a = c .before .before .before .before .before .before .before .before .args in
-    let at = atomAt (now (a .code)) (a .j) in
+    let at = pairAtom (now (a .code)) (a .j) in
     subst (λ (l : List ℕ). Adds (a .n) (λ x. is 1 (side (a .n) (now (a .m))) x && eqb x at) (now (a .counts)) l)
     (sym
     (ap₂ (λ (x y : ℕ). set (now (a .counts)) (x - 1) (y + 1)) (c .before .before .before .before .atom-at .ensures)

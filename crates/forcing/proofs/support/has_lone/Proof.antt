@@ -4,8 +4,8 @@ use Prim.Native.Nat.{_-_, _≤_}
 use native.Mathlib.Omega.{arith}
 use borrow.Author.Needs.{needs}
 use Rattle.rules.specs.Map.{side}
-use Rattle.table.specs.Rows.{headsAt}
-use Rattle.forcing.specs.Support.{NotLone}
+use Rattle.table.specs.inner.Rows.{headsAt}
+use Rattle.forcing.specs.inner.Support.{NotLone}
 use Rattle.forcing.proofs.HeadScans.{Sofar}
 use Rattle.forcing.proofs.Backing.{lone-here, lone-more, lone-nowhere}
 use Rattle.forcing.proofs.support.has_lone.Statement.{statement}

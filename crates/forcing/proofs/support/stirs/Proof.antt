@@ -6,7 +6,7 @@ use native.Mathlib.Omega.{arith}
 use borrow.Author.Needs.{needs}
 use Rattle.rules.specs.Rule.{Within}
 use Rattle.rules.specs.Map.{side}
-use Rattle.table.specs.Rows.{headsAt}
+use Rattle.table.specs.inner.Rows.{headsAt}
 use Rattle.forcing.proofs.HeadScans.{Sofar, scan-more, scan-end}
 use Rattle.forcing.proofs.support.stirs.Statement.{statement}
 use Rattle.forcing.proofs.support.stirs.Tie as tie

@@ -1,7 +1,7 @@
 -- `read_atom` meets its contract: each way through its tests is a case of `atomAt`.
 use borrow.Author.Needs.{needs}
 use Rattle.numbers.specs.Lists.{atomAt}
-use Rattle.numbers.proofs.Answer.{ways}
+use Rattle.numbers.proofs.Answer.{ways, at-most, above}
 use Rattle.numbers.proofs.lists.read_atom.Statement.{statement}
 use Rattle.numbers.proofs.lists.read_atom.Tie as tie
 
@@ -34,16 +34,19 @@ returns-2 : tie.Need-returns-2
 unfolding atomAt
 returns-2 c = search ways depth 16
 
+number-requires : tie.Need-number-requires
+number-requires c κs = search needs
+
 refused-requires-2 : tie.Need-refused-requires-2
 refused-requires-2 c κs = search needs
 
 returns-3 : tie.Need-returns-3
 unfolding atomAt
-returns-3 c = search ways depth 16
+returns-3 c = search (at-most, ways) depth 16
 
 returns-4 : tie.Need-returns-4
 unfolding atomAt
-returns-4 c = search ways depth 16
+returns-4 c = search (at-most, above, ways) depth 16
 
 pub read-atom-spec : {M : Type 1} → statement M
 read-atom-spec =
@@ -58,6 +61,7 @@ read-atom-spec =
     enum-told-2
     refused-requires
     returns-2
+    number-requires
     refused-requires-2
     returns-3
     returns-4)

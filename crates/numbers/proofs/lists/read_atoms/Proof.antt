@@ -4,8 +4,8 @@ use mathlib.Core.Path.{_≡_}
 use native.Mathlib.Nat.{sub-zero}
 use native.Mathlib.Omega.{arith}
 use borrow.Author.Needs.{needs}
-use Rattle.numbers.specs.Answer.{part}
-use Rattle.numbers.specs.Lists.{run, atomAt}
+use Rattle.numbers.specs.Answer.{span}
+use Rattle.numbers.specs.Lists.{inTurn, atomAt}
 use Rattle.numbers.proofs.lists.Laws.{turn, turn-out, turned}
 use Rattle.numbers.proofs.lists.read_atoms.Statement.{statement}
 use Rattle.numbers.proofs.lists.read_atoms.Tie as tie
@@ -13,7 +13,7 @@ use Rattle.numbers.proofs.lists.read_atoms.Tie as tie
 abbrev Inv-loop : tie.InvT-loop
 Inv-loop s n count first above₀ at₀ counter₀ above at counter =
     (counter ≤ count)
-    × (run (atomAt s n) (count - counter) above (part count first at) ≡ run (atomAt s n) count 0 (part count first first))
+    × (inTurn (atomAt s n) (count - counter) above (span count first at) ≡ inTurn (atomAt s n) count 0 (span count first first))
 
 abbrev μ-loop : tie.MeasureT-loop
 μ-loop s n count first above₀ at₀ counter₀ above at counter = count - counter

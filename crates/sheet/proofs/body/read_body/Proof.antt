@@ -1,11 +1,11 @@
 -- `read_body` meets its contract: two lists and then the weights. The body's length fits, since each count is a number that was read.
-use borrow.Author.Needs.{needs}
-use Rattle.sheet.specs.Body.{bodyAt}
 use mathlib.Core.Path.{_∙_, sym}
 use native.Mathlib.Omega.{arith}
+use borrow.Author.Needs.{needs}
 use Rattle.rules.specs.Limits.{numberMost}
 use Rattle.numbers.proofs.lists.Most.{list-most}
 use Rattle.sheet.proofs.body.Laws.{weighed-by}
+use Rattle.sheet.specs.Body.{bodyAt}
 use Rattle.numbers.proofs.Answer.{ways}
 use Rattle.sheet.proofs.body.read_body.Statement.{statement}
 use Rattle.sheet.proofs.body.read_body.Tie as tie
@@ -13,14 +13,11 @@ use Rattle.sheet.proofs.body.read_body.Tie as tie
 read-list-requires : tie.Need-read-list-requires
 read-list-requires c κs = search needs
 
-enum-known-got : tie.Need-enum-known-got
-enum-known-got c = search needs
+enum-known-list : tie.Need-enum-known-list
+enum-known-list c = search needs
 
-enum-told : tie.Need-enum-told
-enum-told c = search needs
-
-refusal-requires : tie.Need-refusal-requires
-refusal-requires c κs = search needs
+enum-known-why : tie.Need-enum-known-why
+enum-known-why c = search needs
 
 returns : tie.Need-returns
 unfolding bodyAt
@@ -29,14 +26,11 @@ returns c = search ways depth 16
 read-list-requires-2 : tie.Need-read-list-requires-2
 read-list-requires-2 c κs = search needs
 
-enum-known-last : tie.Need-enum-known-last
-enum-known-last c = search needs
+enum-known-list-2 : tie.Need-enum-known-list-2
+enum-known-list-2 c = search needs
 
-enum-told-2 : tie.Need-enum-told-2
-enum-told-2 c = search needs
-
-refusal-requires-2 : tie.Need-refusal-requires-2
-refusal-requires-2 c κs = search needs
+enum-known-why-2 : tie.Need-enum-known-why-2
+enum-known-why-2 c = search needs
 
 returns-2 : tie.Need-returns-2
 unfolding bodyAt
@@ -45,12 +39,12 @@ returns-2 c = search ways depth 16
 add-need : tie.Need-add-need
 unfolding numberMost
 add-need c =
+    let second = c .before .before .before in
+    let first = second .before .before .before .before in
     omega (
       arith,
-      list-most _ 0 _ _ _
-          (sym (c .before .before .before .before .before .before .before .before .before .read-list .ensures)
-          ∙ c .before .before .before .before .before .before .before .got .given .1),
-      list-most _ 0 _ _ _ (sym (c .before .before .before .before .before .read-list2 .ensures) ∙ c .before .before .before .last .given .1),
+      list-most _ 0 _ _ _ (sym (first .before .before .read-list .ensures) ∙ first .list .given .1),
+      list-most _ 0 _ _ _ (sym (second .before .before .read-list2 .ensures) ∙ second .list2 .given .1),
     )
 
 need-requires : tie.Need-need-requires
@@ -68,14 +62,12 @@ read-body-spec =
     tie.close
     (tie.spec
     read-list-requires
-    enum-known-got
-    enum-told
-    refusal-requires
+    enum-known-list
+    enum-known-why
     returns
     read-list-requires-2
-    enum-known-last
-    enum-told-2
-    refusal-requires-2
+    enum-known-list-2
+    enum-known-why-2
     returns-2
     add-need
     need-requires

@@ -1,7 +1,7 @@
--- `read_weighed` meets its contract: two runs of weights, one after the other.
+-- `read_weighed` meets its contract: the weights of the positive literals, and then of the negated.
 use borrow.Author.Needs.{needs}
-use Rattle.sheet.specs.Body.{weighedAt}
 use Rattle.sheet.proofs.body.Laws.{weights-by}
+use Rattle.sheet.specs.Body.{weighedAt}
 use Rattle.numbers.proofs.Answer.{ways}
 use Rattle.sheet.proofs.body.read_weighed.Statement.{statement}
 use Rattle.sheet.proofs.body.read_weighed.Tie as tie
@@ -12,14 +12,11 @@ weights-due-requires c κs = search needs
 read-weights-requires : tie.Need-read-weights-requires
 read-weights-requires c κs = search needs
 
-enum-known-got : tie.Need-enum-known-got
-enum-known-got c = search needs
+enum-known-weights : tie.Need-enum-known-weights
+enum-known-weights c = search needs
 
-enum-told : tie.Need-enum-told
-enum-told c = search needs
-
-refusal-requires : tie.Need-refusal-requires
-refusal-requires c κs = search needs
+enum-known-why : tie.Need-enum-known-why
+enum-known-why c = search needs
 
 returns : tie.Need-returns
 unfolding weighedAt
@@ -31,14 +28,11 @@ weights-due-requires-2 c κs = search needs
 read-weights-requires-2 : tie.Need-read-weights-requires-2
 read-weights-requires-2 c κs = search needs
 
-enum-known-last : tie.Need-enum-known-last
-enum-known-last c = search needs
+enum-known-weights-2 : tie.Need-enum-known-weights-2
+enum-known-weights-2 c = search needs
 
-enum-told-2 : tie.Need-enum-told-2
-enum-told-2 c = search needs
-
-refusal-requires-2 : tie.Need-refusal-requires-2
-refusal-requires-2 c κs = search needs
+enum-known-why-2 : tie.Need-enum-known-why-2
+enum-known-why-2 c = search needs
 
 returns-2 : tie.Need-returns-2
 unfolding weighedAt
@@ -54,14 +48,12 @@ read-weighed-spec =
     (tie.spec
     weights-due-requires
     read-weights-requires
-    enum-known-got
-    enum-told
-    refusal-requires
+    enum-known-weights
+    enum-known-why
     returns
     weights-due-requires-2
     read-weights-requires-2
-    enum-known-last
-    enum-told-2
-    refusal-requires-2
+    enum-known-weights-2
+    enum-known-why-2
     returns-2
     returns-3)

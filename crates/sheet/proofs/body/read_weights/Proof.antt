@@ -5,8 +5,8 @@ use native.Mathlib.Nat.{sub-zero}
 use native.Mathlib.Omega.{arith}
 use borrow.Author.Needs.{needs}
 use Rattle.rules.specs.Limits.{weightMost}
-use Rattle.numbers.specs.Answer.{part}
-use Rattle.numbers.specs.Lists.{run}
+use Rattle.numbers.specs.Answer.{span}
+use Rattle.numbers.specs.Lists.{inTurn}
 use Rattle.sheet.specs.Body.{weightAt, weightsAt}
 use Rattle.numbers.proofs.lists.Laws.{turn, turn-out, turned}
 use Rattle.sheet.proofs.body.Laws.{weights-alike}
@@ -15,7 +15,7 @@ use Rattle.sheet.proofs.body.read_weights.Tie as tie
 
 abbrev Inv-loop : tie.InvT-loop
 Inv-loop s count first at₀ counter₀ at counter =
-    (counter ≤ count) × (run (weightAt s) (count - counter) 0 (part count first at) ≡ weightsAt s count first)
+    (counter ≤ count) × (inTurn (weightAt s) (count - counter) 0 (span count first at) ≡ weightsAt s count first)
 
 abbrev μ-loop : tie.MeasureT-loop
 μ-loop s count first at₀ counter₀ at counter = count - counter

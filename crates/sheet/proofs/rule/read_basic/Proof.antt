@@ -8,14 +8,11 @@ use Rattle.sheet.proofs.rule.read_basic.Tie as tie
 read-number-requires : tie.Need-read-number-requires
 read-number-requires c κs = search needs
 
-enum-known-got : tie.Need-enum-known-got
-enum-known-got c = search needs
+enum-known-number : tie.Need-enum-known-number
+enum-known-number c = search needs
 
-enum-told : tie.Need-enum-told
-enum-told c = search needs
-
-refusal-requires : tie.Need-refusal-requires
-refusal-requires c κs = search needs
+enum-known-why : tie.Need-enum-known-why
+enum-known-why c = search needs
 
 returns : tie.Need-returns
 unfolding basicAt headThen
@@ -27,8 +24,8 @@ checked-requires c κs = search needs
 enum-known-checked : tie.Need-enum-known-checked
 enum-known-checked c = search needs
 
-enum-told-2 : tie.Need-enum-told-2
-enum-told-2 c = search needs
+enum-told : tie.Need-enum-told
+enum-told c = search needs
 
 refused-requires : tie.Need-refused-requires
 refused-requires c κs = search needs
@@ -49,13 +46,12 @@ read-basic-spec =
     tie.close
     (tie.spec
     read-number-requires
-    enum-known-got
-    enum-told
-    refusal-requires
+    enum-known-number
+    enum-known-why
     returns
     checked-requires
     enum-known-checked
-    enum-told-2
+    enum-told
     refused-requires
     returns-2
     read-body-requires

@@ -1,22 +1,19 @@
 -- `read_bounded` meets its contract: each way through its tests is a case of `boundedAt`.
 use borrow.Author.Needs.{needs}
+use Rattle.sheet.proofs.body.Laws.{body-by}
 use Rattle.sheet.specs.Rule.{boundedAt, headThen}
 use Rattle.numbers.proofs.Answer.{ways}
-use Rattle.sheet.proofs.body.Laws.{body-by}
 use Rattle.sheet.proofs.rule.read_bounded.Statement.{statement}
 use Rattle.sheet.proofs.rule.read_bounded.Tie as tie
 
 read-number-requires : tie.Need-read-number-requires
 read-number-requires c κs = search needs
 
-enum-known-got : tie.Need-enum-known-got
-enum-known-got c = search needs
+enum-known-number : tie.Need-enum-known-number
+enum-known-number c = search needs
 
-enum-told : tie.Need-enum-told
-enum-told c = search needs
-
-refusal-requires : tie.Need-refusal-requires
-refusal-requires c κs = search needs
+enum-known-why : tie.Need-enum-known-why
+enum-known-why c = search needs
 
 returns : tie.Need-returns
 unfolding boundedAt headThen
@@ -28,8 +25,8 @@ checked-requires c κs = search needs
 enum-known-checked : tie.Need-enum-known-checked
 enum-known-checked c = search needs
 
-enum-told-2 : tie.Need-enum-told-2
-enum-told-2 c = search needs
+enum-told : tie.Need-enum-told
+enum-told c = search needs
 
 refused-requires : tie.Need-refused-requires
 refused-requires c κs = search needs
@@ -41,14 +38,11 @@ returns-2 c = search ways depth 16
 read-number-requires-2 : tie.Need-read-number-requires-2
 read-number-requires-2 c κs = search needs
 
-enum-known-last : tie.Need-enum-known-last
-enum-known-last c = search needs
+enum-known-bound : tie.Need-enum-known-bound
+enum-known-bound c = search needs
 
-enum-told-3 : tie.Need-enum-told-3
-enum-told-3 c = search needs
-
-refusal-requires-2 : tie.Need-refusal-requires-2
-refusal-requires-2 c κs = search needs
+enum-known-why-2 : tie.Need-enum-known-why-2
+enum-known-why-2 c = search needs
 
 returns-3 : tie.Need-returns-3
 unfolding boundedAt headThen
@@ -69,19 +63,17 @@ read-bounded-spec =
     tie.close
     (tie.spec
     read-number-requires
-    enum-known-got
-    enum-told
-    refusal-requires
+    enum-known-number
+    enum-known-why
     returns
     checked-requires
     enum-known-checked
-    enum-told-2
+    enum-told
     refused-requires
     returns-2
     read-number-requires-2
-    enum-known-last
-    enum-told-3
-    refusal-requires-2
+    enum-known-bound
+    enum-known-why-2
     returns-3
     bounded-requires
     read-body-requires

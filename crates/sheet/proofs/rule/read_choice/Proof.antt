@@ -1,4 +1,4 @@
--- `read_choice` meets its contract: each way through its tests is a case of `choiceAt`.
+-- `read_choice` meets its contract: a list of heads, and then the body.
 use borrow.Author.Needs.{needs}
 use Rattle.sheet.specs.Rule.{choiceAt}
 use Rattle.numbers.proofs.Answer.{ways}
@@ -8,14 +8,11 @@ use Rattle.sheet.proofs.rule.read_choice.Tie as tie
 read-list-requires : tie.Need-read-list-requires
 read-list-requires c κs = search needs
 
-enum-known-got : tie.Need-enum-known-got
-enum-known-got c = search needs
+enum-known-heads : tie.Need-enum-known-heads
+enum-known-heads c = search needs
 
-enum-told : tie.Need-enum-told
-enum-told c = search needs
-
-refusal-requires : tie.Need-refusal-requires
-refusal-requires c κs = search needs
+enum-known-why : tie.Need-enum-known-why
+enum-known-why c = search needs
 
 returns : tie.Need-returns
 unfolding choiceAt
@@ -33,9 +30,8 @@ read-choice-spec =
     tie.close
     (tie.spec
     read-list-requires
-    enum-known-got
-    enum-told
-    refusal-requires
+    enum-known-heads
+    enum-known-why
     returns
     read-body-requires
     returns-2)

@@ -8,14 +8,11 @@ use Rattle.sheet.proofs.rule.read_rule.Tie as tie
 read-number-requires : tie.Need-read-number-requires
 read-number-requires c κs = search needs
 
-enum-known-got : tie.Need-enum-known-got
-enum-known-got c = search needs
+enum-known-kind : tie.Need-enum-known-kind
+enum-known-kind c = search needs
 
-enum-told : tie.Need-enum-told
-enum-told c = search needs
-
-refusal-requires : tie.Need-refusal-requires
-refusal-requires c κs = search needs
+enum-known-why : tie.Need-enum-known-why
+enum-known-why c = search needs
 
 returns : tie.Need-returns
 unfolding ruleAt
@@ -61,9 +58,8 @@ read-rule-spec =
     tie.close
     (tie.spec
     read-number-requires
-    enum-known-got
-    enum-told
-    refusal-requires
+    enum-known-kind
+    enum-known-why
     returns
     read-basic-requires
     returns-2

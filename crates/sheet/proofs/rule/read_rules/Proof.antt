@@ -4,8 +4,8 @@ use mathlib.Core.Path.{_≡_, refl, sym, _∙_}
 use native.Mathlib.Nat.{sub-zero}
 use native.Mathlib.Omega.{arith}
 use borrow.Author.Needs.{needs}
-use Rattle.numbers.specs.Answer.{part}
-use Rattle.numbers.specs.Lists.{run}
+use Rattle.numbers.specs.Answer.{span}
+use Rattle.numbers.specs.Lists.{inTurn}
 use Rattle.sheet.specs.Rule.{ruleStep, rulesAt}
 use Rattle.numbers.proofs.lists.Laws.{turn, turn-out, turned}
 use Rattle.sheet.proofs.rule.Laws.{step-got, step-out}
@@ -14,7 +14,7 @@ use Rattle.sheet.proofs.rule.read_rules.Tie as tie
 
 abbrev Inv-loop : tie.InvT-loop
 Inv-loop s n count first at₀ counter₀ at counter =
-    (counter ≤ count) × (run (ruleStep s n) (count - counter) 0 (part count first at) ≡ rulesAt s n count first)
+    (counter ≤ count) × (inTurn (ruleStep s n) (count - counter) 0 (span count first at) ≡ rulesAt s n count first)
 
 abbrev μ-loop : tie.MeasureT-loop
 μ-loop s n count first at₀ counter₀ at counter = count - counter
@@ -26,20 +26,18 @@ loop-holds c = (search needs, simp sub-zero)
 read-rule-requires : tie.Need-read-rule-requires Inv-loop μ-loop
 read-rule-requires c κs = search needs
 
-enum-known-got : tie.Need-enum-known-got Inv-loop μ-loop
-enum-known-got c = search needs
+enum-known-rule : tie.Need-enum-known-rule Inv-loop μ-loop
+enum-known-rule c = search needs
 
-enum-told : tie.Need-enum-told Inv-loop μ-loop
-enum-told c = search needs
-
-refusal-requires : tie.Need-refusal-requires Inv-loop μ-loop
-refusal-requires c κs = search needs
+enum-known-why : tie.Need-enum-known-why Inv-loop μ-loop
+enum-known-why c = search needs
 
 returns : tie.Need-returns Inv-loop μ-loop
 returns c =
-    let l = c .before .before .before .before .before .loop in
-    let out = step-out _ _ 0 (l .at) _ _ (c .before .before .before .read-rule .ensures) (c .refusal .ensures) in
-    sym out ∙ turn-out _ _ (l .counter) 0 _ (l .inv .1) (c .before .before .before .before .loop-test .taken) refl _ out
+    let read = c .before .before .before in
+    let l = read .before .before .loop in
+    let out = step-out _ _ 0 (l .at) _ _ (read .read-rule .ensures) (c .before .why .given .1) in
+    sym out ∙ turn-out _ _ (l .counter) 0 _ (l .inv .1) (read .before .loop-test .taken) refl _ out
 
 add-counter : tie.Need-add-counter Inv-loop μ-loop
 add-counter c = omega arith
@@ -49,10 +47,11 @@ loop-less c = omega arith
 
 loop-again : tie.Need-loop-again Inv-loop μ-loop
 loop-again c =
-    let l = c .before .before .before .before .before .loop in (
+    let read = c .before .before .before in
+    let l = read .before .before .loop in (
       omega arith,
-      turn _ _ (l .counter) 0 _ (l .inv .1) (c .before .before .before .before .loop-test .taken) refl _
-          (step-got _ _ 0 (l .at) _ _ (c .before .before .before .read-rule .ensures) (c .before .got .given .1)),
+      turn _ _ (l .counter) 0 _ (l .inv .1) (read .before .loop-test .taken) refl _
+          (step-got _ _ 0 (l .at) _ _ (read .read-rule .ensures) (c .before .rule .given .1)),
     )
 
 returns-2 : tie.Need-returns-2 Inv-loop μ-loop
@@ -68,9 +67,8 @@ read-rules-spec =
     μ-loop
     loop-holds
     read-rule-requires
-    enum-known-got
-    enum-told
-    refusal-requires
+    enum-known-rule
+    enum-known-why
     returns
     add-counter
     loop-less

@@ -1,4 +1,4 @@
--- `read_rest` meets its contract: each way through its tests is a case of `restAt`.
+-- `read_rest` meets its contract: the rule count, the rules, and what comes after them.
 use borrow.Author.Needs.{needs}
 use Rattle.rules.specs.Limits.{rulesMost}
 use Rattle.sheet.specs.Sheet.{restAt}
@@ -9,14 +9,11 @@ use Rattle.sheet.proofs.sheet.read_rest.Tie as tie
 read-within-requires : tie.Need-read-within-requires
 read-within-requires c κs = search needs
 
-enum-known-got : tie.Need-enum-known-got
-enum-known-got c = search needs
+enum-known-count : tie.Need-enum-known-count
+enum-known-count c = search needs
 
-enum-told : tie.Need-enum-told
-enum-told c = search needs
-
-refusal-requires : tie.Need-refusal-requires
-refusal-requires c κs = search needs
+enum-known-why : tie.Need-enum-known-why
+enum-known-why c = search needs
 
 returns : tie.Need-returns
 unfolding restAt rulesMost
@@ -25,14 +22,11 @@ returns c = search ways depth 16
 read-rules-requires : tie.Need-read-rules-requires
 read-rules-requires c κs = search needs
 
-enum-known-last : tie.Need-enum-known-last
-enum-known-last c = search needs
+enum-known-rules : tie.Need-enum-known-rules
+enum-known-rules c = search needs
 
-enum-told-2 : tie.Need-enum-told-2
-enum-told-2 c = search needs
-
-refusal-requires-2 : tie.Need-refusal-requires-2
-refusal-requires-2 c κs = search needs
+enum-known-why-2 : tie.Need-enum-known-why-2
+enum-known-why-2 c = search needs
 
 returns-2 : tie.Need-returns-2
 unfolding restAt rulesMost
@@ -50,14 +44,12 @@ read-rest-spec =
     tie.close
     (tie.spec
     read-within-requires
-    enum-known-got
-    enum-told
-    refusal-requires
+    enum-known-count
+    enum-known-why
     returns
     read-rules-requires
-    enum-known-last
-    enum-told-2
-    refusal-requires-2
+    enum-known-rules
+    enum-known-why-2
     returns-2
     read-tail-requires
     returns-3)

@@ -1,4 +1,4 @@
--- `read_tail` meets its contract: each way through its tests is a case of `tailAt`.
+-- `read_tail` meets its contract: two lists, and nothing more.
 use borrow.Author.Needs.{needs}
 use Rattle.sheet.specs.Sheet.{tailAt}
 use Rattle.numbers.proofs.Answer.{ways}
@@ -8,14 +8,11 @@ use Rattle.sheet.proofs.sheet.read_tail.Tie as tie
 read-list-requires : tie.Need-read-list-requires
 read-list-requires c κs = search needs
 
-enum-known-got : tie.Need-enum-known-got
-enum-known-got c = search needs
+enum-known-list : tie.Need-enum-known-list
+enum-known-list c = search needs
 
-enum-told : tie.Need-enum-told
-enum-told c = search needs
-
-refusal-requires : tie.Need-refusal-requires
-refusal-requires c κs = search needs
+enum-known-why : tie.Need-enum-known-why
+enum-known-why c = search needs
 
 returns : tie.Need-returns
 unfolding tailAt
@@ -24,18 +21,18 @@ returns c = search ways depth 16
 read-list-requires-2 : tie.Need-read-list-requires-2
 read-list-requires-2 c κs = search needs
 
-enum-known-last : tie.Need-enum-known-last
-enum-known-last c = search needs
+enum-known-list-2 : tie.Need-enum-known-list-2
+enum-known-list-2 c = search needs
 
-enum-told-2 : tie.Need-enum-told-2
-enum-told-2 c = search needs
-
-refusal-requires-2 : tie.Need-refusal-requires-2
-refusal-requires-2 c κs = search needs
+enum-known-why-2 : tie.Need-enum-known-why-2
+enum-known-why-2 c = search needs
 
 returns-2 : tie.Need-returns-2
 unfolding tailAt
 returns-2 c = search ways depth 16
+
+refused-requires : tie.Need-refused-requires
+refused-requires c κs = search needs
 
 returns-3 : tie.Need-returns-3
 unfolding tailAt
@@ -50,14 +47,13 @@ read-tail-spec =
     tie.close
     (tie.spec
     read-list-requires
-    enum-known-got
-    enum-told
-    refusal-requires
+    enum-known-list
+    enum-known-why
     returns
     read-list-requires-2
-    enum-known-last
-    enum-told-2
-    refusal-requires-2
+    enum-known-list-2
+    enum-known-why-2
     returns-2
+    refused-requires
     returns-3
     returns-4)

@@ -1,4 +1,4 @@
--- `read_whole` meets its contract: each way through its tests is a case of `wholeAt`.
+-- `read_whole` meets its contract: the edition, the atom count, and the rest.
 use borrow.Author.Needs.{needs}
 use Rattle.rules.specs.Limits.{atomsMost}
 use Rattle.sheet.specs.Sheet.{wholeAt}
@@ -9,14 +9,11 @@ use Rattle.sheet.proofs.sheet.read_whole.Tie as tie
 read-edition-requires : tie.Need-read-edition-requires
 read-edition-requires c κs = search needs
 
-enum-known-got : tie.Need-enum-known-got
-enum-known-got c = search needs
+enum-known-edition : tie.Need-enum-known-edition
+enum-known-edition c = search needs
 
-enum-told : tie.Need-enum-told
-enum-told c = search needs
-
-refusal-requires : tie.Need-refusal-requires
-refusal-requires c κs = search needs
+enum-known-why : tie.Need-enum-known-why
+enum-known-why c = search needs
 
 returns : tie.Need-returns
 unfolding wholeAt atomsMost
@@ -25,14 +22,11 @@ returns c = search ways depth 16
 read-within-requires : tie.Need-read-within-requires
 read-within-requires c κs = search needs
 
-enum-known-last : tie.Need-enum-known-last
-enum-known-last c = search needs
+enum-known-atoms : tie.Need-enum-known-atoms
+enum-known-atoms c = search needs
 
-enum-told-2 : tie.Need-enum-told-2
-enum-told-2 c = search needs
-
-refusal-requires-2 : tie.Need-refusal-requires-2
-refusal-requires-2 c κs = search needs
+enum-known-why-2 : tie.Need-enum-known-why-2
+enum-known-why-2 c = search needs
 
 returns-2 : tie.Need-returns-2
 unfolding wholeAt atomsMost
@@ -50,14 +44,12 @@ read-whole-spec =
     tie.close
     (tie.spec
     read-edition-requires
-    enum-known-got
-    enum-told
-    refusal-requires
+    enum-known-edition
+    enum-known-why
     returns
     read-within-requires
-    enum-known-last
-    enum-told-2
-    refusal-requires-2
+    enum-known-atoms
+    enum-known-why-2
     returns-2
     read-rest-requires
     returns-3)

@@ -1,7 +1,7 @@
 -- `answer` meets its contract: each line is that of the answer that solve gave.
-use borrow.Author.Needs.{needs}
 use Rattle.solve.proofs.Lines.{answered, model-answered}
 use Rattle.rules.specs.Limits.{atomsMost}
+use borrow.Author.Needs.{needs}
 use Rattle.solve.proofs.answer.answer.Statement.{statement}
 use Rattle.solve.proofs.answer.answer.Tie as tie
 
@@ -29,36 +29,23 @@ enum-told-2 c = search needs
 none-line-requires : tie.Need-none-line-requires
 none-line-requires c κs = search needs
 
-enum-known-solved : tie.Need-enum-known-solved
-enum-known-solved c = search needs
+enum-known-why : tie.Need-enum-known-why
+enum-known-why c = search needs
 
 refused-line-requires : tie.Need-refused-line-requires
 refused-line-requires c κs = search needs
 
 returns : tie.Need-returns
 unfolding atomsMost
-returns c =
-    model-answered _
-    (c .before .before .before .enum-told .given .1)
-    (c .before .before .before .before .before .before .solve .ensures)
-    (c .before .atoms .ensures)
-    (c .model-line .ensures)
+returns c = model-answered _ (c .before .before .before .enum-told .given .1) (c .before .before .before .before .before .before .solve .ensures) (c .before .atoms .ensures) (c .model-line .ensures)
 
 returns-2 : tie.Need-returns-2
 unfolding atomsMost
-returns-2 c =
-    answered _
-    (c .before .enum-told2 .given .1)
-    (c .before .before .before .before .solve .ensures)
-    (c .none-line .ensures)
+returns-2 c = answered _ (c .before .enum-told2 .given .1) (c .before .before .before .before .solve .ensures) (c .none-line .ensures)
 
 returns-3 : tie.Need-returns-3
 unfolding atomsMost
-returns-3 c =
-    answered _
-    (c .before .before .solved .given .1)
-    (c .before .before .before .before .before .solve .ensures)
-    (c .refused-line .ensures)
+returns-3 c = answered _ (c .before .before .why .given .1) (c .before .before .before .before .before .solve .ensures) (c .refused-line .ensures)
 
 pub answer-spec : {M : Type 1} → statement M
 answer-spec =
@@ -72,7 +59,7 @@ answer-spec =
     model-line-requires
     enum-told-2
     none-line-requires
-    enum-known-solved
+    enum-known-why
     refused-line-requires
     returns
     returns-2

@@ -1,23 +1,27 @@
--- `atoms` meets its contract: the check of a sheet counts its atoms.
+-- `atoms` meets its contract: the count of the sheet that was read.
+use Rattle.solve.specs.Answer.{atomsIn}
 use borrow.Author.Needs.{needs}
-use Rattle.solve.proofs.Lines.{counted, uncounted}
+use Rattle.sheet.proofs.sheet.Laws.{sheet-ways}
 use Rattle.solve.proofs.answer.atoms.Statement.{statement}
 use Rattle.solve.proofs.answer.atoms.Tie as tie
 
-check-requires : tie.Need-check-requires
-check-requires c κs = search needs
+read-sheet-requires : tie.Need-read-sheet-requires
+read-sheet-requires c κs = search needs
 
-enum-known-checked : tie.Need-enum-known-checked
-enum-known-checked c = search needs
+enum-known-outline : tie.Need-enum-known-outline
+enum-known-outline c = search needs
 
 enum-told : tie.Need-enum-told
 enum-told c = search needs
 
 returns : tie.Need-returns
-returns c = counted _ (c .before .checked .given .1) (c .before .before .before .check .ensures)
+unfolding atomsIn
+returns c = search sheet-ways depth 16
 
 returns-2 : tie.Need-returns-2
-returns-2 c = uncounted _ (c .enum-told .given .1) (c .before .before .check .ensures)
+unfolding atomsIn
+returns-2 c = search sheet-ways depth 16
 
 pub atoms-spec : {M : Type 1} → statement M
-atoms-spec = tie.close (tie.spec check-requires enum-known-checked enum-told returns returns-2)
+atoms-spec =
+    tie.close (tie.spec read-sheet-requires enum-known-outline enum-told returns returns-2)

@@ -4,13 +4,13 @@ use Prim.Native.Nat.{ℕ, _≤_, _-_}
 use mathlib.Core.Path.{_≡_, ap}
 use native.Mathlib.Omega.{arith}
 use Rattle.text.specs.Line.{spacedAll, inAtoms}
-use Rattle.text.specs.Put.{Puts}
+use Rattle.text.specs.inner.Put.{Appends}
 use Rattle.text.proofs.put.Laws.{put-none, retold, atoms-more, atoms-room}
 use Rattle.text.proofs.put.put_atoms.Statement.{statement}
 use Rattle.text.proofs.put.put_atoms.Tie as tie
 
 abbrev Inv-loop : tie.InvT-loop
-Inv-loop out₀ len map n next₀ i₀ out next i = (i ≤ n) × Puts out₀ len (spacedAll (inAtoms i map)) out next
+Inv-loop out₀ len map n next₀ i₀ out next i = (i ≤ n) × Appends out₀ len (spacedAll (inAtoms i map)) out next
 
 abbrev μ-loop : tie.MeasureT-loop
 μ-loop out₀ len map n next₀ i₀ out next i = n - i

@@ -4,13 +4,13 @@ use Prim.Native.Nat.{_≤_, _-_}
 use native.Mathlib.Omega.{arith}
 use lib.ListN.{length, take}
 use lib.Seq.{take-all}
-use Rattle.text.specs.Put.{Puts}
+use Rattle.text.specs.inner.Put.{Appends}
 use Rattle.text.proofs.put.Laws.{put-none, retold, word-more, word-room}
 use Rattle.text.proofs.put.put_word.Statement.{statement}
 use Rattle.text.proofs.put.put_word.Tie as tie
 
 abbrev Inv-loop : tie.InvT-loop
-Inv-loop out₀ len word next₀ i₀ out next i = (i ≤ length word) × Puts out₀ len (take i word) out next
+Inv-loop out₀ len word next₀ i₀ out next i = (i ≤ length word) × Appends out₀ len (take i word) out next
 
 abbrev μ-loop : tie.MeasureT-loop
 μ-loop out₀ len word next₀ i₀ out next i = length word - i

@@ -3,7 +3,7 @@ use borrow.Author.Needs.{needs}
 use mathlib.Core.Path.{sym, subst}
 use mathlib.Core.Bool.{true, false, not}
 use denote.Ref.{now}
-use Rattle.weigh.specs.Step.{Decided}
+use Rattle.weigh.specs.inner.Step.{Decided}
 use Rattle.weigh.proofs.Presses.{want-sided, body-pressed}
 use Rattle.weigh.proofs.Weights.{seg-cast}
 use Rattle.weigh.proofs.press.press_body.Statement.{statement}

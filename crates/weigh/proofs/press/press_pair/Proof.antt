@@ -1,7 +1,7 @@
 -- `weigh::press::press_pair`: a pair that weighs less or is decided is left, and any other is put on its side.
 use borrow.Author.Needs.{needs}
 use denote.Ref.{now}
-use Rattle.weigh.proofs.Presses.{pair-light, pair-decided, pair-put}
+use Rattle.weigh.proofs.Presses.{pair-light, pair-decided, pressed-put}
 use Rattle.weigh.proofs.press.press_pair.Statement.{statement}
 use Rattle.weigh.proofs.press.press_pair.Tie as tie
 
@@ -39,7 +39,7 @@ same-length-2 c = search needs
 returns-3 : tie.Need-returns-3
 returns-3 c =
     let a = c .before .before .before .before .before .before .before .before .before .before .before .before .args in
-    pair-put (now (a .code)) (a .n) (a .j) (a .least) (a .v) (now (a .m))
+    pressed-put (now (a .code)) (a .n) (a .j) (a .least) (a .v) (now (a .m))
     (c .before .before .before .before .before .before .before .before .before .before .before .before .pre) _ _ _ _ _
     (c .before .before .before .before .before .before .before .before .before .weight-at .ensures)
     (c .before .before .before .before .before .before .before .before .if1 .left)

@@ -3,7 +3,7 @@ use Prim.Native.Nat.{_-_, _≤_}
 use native.Mathlib.Omega.{arith}
 use borrow.Author.Needs.{needs}
 use denote.Ref.{now}
-use Rattle.weigh.specs.Press.{Presses}
+use Rattle.weigh.specs.inner.Press.{Presses}
 use Rattle.weigh.proofs.Presses.{run-begin, run-more, run-end}
 use Rattle.weigh.proofs.press.press_run.Statement.{statement}
 use Rattle.weigh.proofs.press.press_run.Tie as tie

@@ -1,0 +1,32 @@
+-- "A body is a list of positive atoms and then a list of negated atoms." The words of a table after such a list was written from a
+-- pair on: for each literal its atom and its weight, one pair after another.
+use Prim.Native.Nat.{ℕ, _+_, _*_, _≤_}
+use mathlib.Core.Path.{_≡_}
+use mathlib.Core.List.{List, [], _∷_}
+use lib.ListN.{length}
+use Rattle.rules.specs.Limits.{numberMost}
+use Rattle.rules.specs.Rule.{Weighted}
+use Rattle.table.specs.inner.Words.{pairWidth}
+use Rattle.decode.specs.inner.Words.{withWords}
+
+unfoldable pub withPair : List ℕ → ℕ → ℕ → ℕ → List ℕ
+withPair c j atom weight = withWords c (pairWidth * j) (atom ∷ weight ∷ [])
+
+unfoldable pub withPairs : List ℕ → ℕ → List Weighted → List ℕ
+withPairs c j [] = c
+withPairs c j (l ∷ ls) = withPairs (withPair c j (l .atom) (l .weight)) (j + 1) ls
+
+-- there is room for a pair, and its numbers are a sheet's
+pub record PairFits (c : List ℕ) (j atom weight : ℕ) : Type 0 where
+  pub room : pairWidth * (j + 1) ≤ length c
+  pub atomFits : atom ≤ numberMost
+  pub weightFits : weight ≤ numberMost
+
+-- there is room for a list
+pub record PairsFit (c : List ℕ) (j : ℕ) (ls : List Weighted) : Type 0 where
+  pub room : pairWidth * (j + length ls) ≤ length c
+
+-- the list was written from pair j on, and next is the pair after it
+pub record PairsCopied (c : List ℕ) (j : ℕ) (ls : List Weighted) (c′ : List ℕ) (next : ℕ) : Type 0 where
+  pub code : c′ ≡ withPairs c j ls
+  pub end : next ≡ j + length ls

@@ -1,0 +1,60 @@
+-- `solve` meets its contract: its gate, its task, and the answer handed over.
+use Rattle.gate.proofs.Calls.{solve-fits, solve-goes}
+use Rattle.desk.proofs.calls.Laws.{solves-refused, fits-as, rooms, stopped, solves, went}
+use Rattle.rules.specs.Limits.{atomsMost}
+use borrow.Author.Needs.{needs}
+use mathlib.Core.Path.{refl}
+use Rattle.desk.proofs.calls.solve.Statement.{statement}
+use Rattle.desk.proofs.calls.solve.Tie as tie
+
+solve-gate-requires : tie.Need-solve-gate-requires
+solve-gate-requires c κs = search needs
+
+slice-aggregate-serve : tie.Need-slice-aggregate-serve
+slice-aggregate-serve c = search needs
+
+serve-requires : tie.Need-serve-requires
+unfolding atomsMost
+serve-requires c κs = (fits-as _ _ (c .before .before .solve-gate .ensures) (solve-fits _ _), refl)
+
+enum-known-why : tie.Need-enum-known-why
+enum-known-why c = search needs
+
+enum-known-answer : tie.Need-enum-known-answer
+enum-known-answer c = search needs
+
+slice-aggregate-hand-model : tie.Need-slice-aggregate-hand-model
+slice-aggregate-hand-model c = search needs
+
+hand-model-requires : tie.Need-hand-model-requires
+unfolding atomsMost
+hand-model-requires c κs = rooms (λ o t g. solve-goes _ _ g .1) refl (went (c .before .before .before .before .before .before .before .before .before .solve-gate .ensures) (c .before .before .before .before .before .before .serve .ensures) _ (c .before .before .before .answer .given .1))
+
+same-length : tie.Need-same-length
+same-length c = search needs
+
+returns : tie.Need-returns
+returns c = solves-refused _ _ _ (stopped (c .before .before .before .before .before .before .before .solve-gate .ensures) (c .before .before .before .before .serve .ensures) _ (c .before .why .given .1))
+
+same-length-2 : tie.Need-same-length-2
+same-length-2 c = search needs
+
+returns-2 : tie.Need-returns-2
+unfolding atomsMost
+returns-2 c = solves (went (c .before .before .before .before .before .before .before .before .before .before .before .before .solve-gate .ensures) (c .before .before .before .before .before .before .before .before .before .serve .ensures) _ (c .before .before .before .before .before .before .answer .given .1)) (c .before .before .hand-model .ensures)
+
+pub solve-spec : {M : Type 1} → statement M
+solve-spec =
+    tie.close
+    (tie.spec
+    solve-gate-requires
+    slice-aggregate-serve
+    serve-requires
+    enum-known-why
+    enum-known-answer
+    slice-aggregate-hand-model
+    hand-model-requires
+    same-length
+    returns
+    same-length-2
+    returns-2)

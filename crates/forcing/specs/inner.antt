@@ -1,0 +1,5 @@
+pub mod Pass
+pub mod Heads
+pub mod Support
+pub mod Ground
+pub mod Rounds

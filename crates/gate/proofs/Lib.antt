@@ -1,0 +1,5 @@
+pub mod Ways
+pub mod Goes
+pub mod Calls
+pub mod Past
+pub mod Places

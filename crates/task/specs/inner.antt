@@ -1,0 +1,3 @@
+pub mod Copy
+pub mod Hold
+pub mod Perform
