@@ -9,14 +9,14 @@ use lib.ListN.{length}
 use lib.IntN.{ℤ, pos, negsuc}
 use Rattle.rules.specs.Limits.{atomsMost, rulesMost, bytesMost, weightMost, numberMost}
 use Rattle.rules.specs.Rule.{Sheet, nthRule}
-use Rattle.rules.specs.declared.Item.{Item}
 use Rattle.rules.specs.Map.{Map, side}
 use Rattle.rules.specs.Sum.{pick}
+use Rattle.rules.specs.declared.Item.{Item}
+use Rattle.rules.proofs.Bytes.{undecided-few}
 use Rattle.numbers.specs.declared.Refusal.{Refusal}
 use Rattle.numbers.proofs.Places.{Placed}
 use Rattle.sheet.specs.shown.Encode.{WellFormed}
 use Rattle.sheet.proofs.Limits.{Lies, above, below, rule-sound, margin-range}
-use Rattle.rules.proofs.Bytes.{undecided-few}
 use Rattle.gate.specs.Scan.{isContradiction}
 use Rattle.gate.specs.Gate.{sheetGate, openGate, solveGate, testGate, pinGate, marginGate, partGate}
 use Rattle.gate.specs.declared.Task.the-variants.{Stay}

@@ -8,8 +8,8 @@ use lib.IntN.{ℤ, pos, negsuc}
 use lib.Dec.{leb, eqb}
 use borrow.Author.Tests.{le-leb, lt-leb}
 use Rattle.rules.specs.Limits.{bytesMost, highestRefusal}
-use Rattle.numbers.specs.Answer.{refusal}
 use Rattle.rules.specs.Sum.{pick}
+use Rattle.numbers.specs.Answer.{refusal}
 use Rattle.numbers.specs.declared.Refusal.{Refusal}
 use Rattle.numbers.proofs.Places.{Placed}
 use Rattle.desk.specs.declared.Checked.{Checked}

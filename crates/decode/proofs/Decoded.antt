@@ -8,14 +8,14 @@ use native.Mathlib.Omega.{arith}
 use lib.ListN.{length, length-append, length-map}
 use Rattle.rules.specs.Limits.{bytesMost, numberMost}
 use Rattle.rules.specs.Rule.{Rule, Sheet, one, atomsOf}
-use Rattle.table.specs.inner.Words.{rowWidth, pairWidth}
-use Rattle.table.specs.inner.Rows.{rowRule, tableRules, tableSheet, Row}
 use Rattle.sheet.specs.Meaning.{sheetMeant}
 use Rattle.sheet.specs.shown.Encode.{rulesSize}
 use Rattle.sheet.specs.declared.Outline.{Outline}
 use Rattle.sheet.proofs.Sound.{Sound, each-sound}
 use Rattle.sheet.proofs.rule.Apart.{ones-atoms}
 use Rattle.sheet.proofs.sheet.Ran.{SheetRan, sheet-ran}
+use Rattle.table.specs.inner.Words.{rowWidth, pairWidth}
+use Rattle.table.specs.inner.Rows.{rowRule, tableRules, tableSheet, Row}
 use Rattle.decode.specs.inner.Rows.{firstPair, listsRule, withRules, TableRoom}
 use Rattle.decode.specs.inner.Decode.{tableWords, allRows, Decodable, Decoded}
 use Rattle.decode.proofs.rows.Laws.{rules-long}

@@ -12,12 +12,12 @@ use lib.ListN.{length, length-map}
 use lib.Dec.{T}
 use Rattle.rules.specs.Limits.{atomsMost, weightMost}
 use Rattle.rules.specs.Rule.{Rule, Weighted, Kind, Within, chooses, one, ones, atomsOf, weightsOf}
-use Rattle.table.specs.inner.Words.{pairAtom, pairAt, pairsFrom, seg, Seg}
-use Rattle.table.specs.inner.Rows.{from, to, Row}
 use Rattle.numbers.specs.shown.Encode.{Linked, more, Rises, Rising}
 use Rattle.numbers.proofs.lists.Whole.{rising-few}
 use Rattle.sheet.specs.shown.Encode.{LightOne, Light}
 use Rattle.sheet.proofs.Sound.{Sound, ones-rise, ones-light}
+use Rattle.table.specs.inner.Words.{pairAtom, pairAt, pairsFrom, seg, Seg}
+use Rattle.table.specs.inner.Rows.{from, to, Row}
 use Rattle.decode.specs.inner.Rows.{positivesFrom, negativesFrom, endFrom}
 use Rattle.decode.proofs.rows.Written.{RowWritten}
 

@@ -1,6 +1,5 @@
 -- Broken: one small sheet has an open map with a forced and two undecided atoms, a pin that forces, and a model. What the promises ask
 -- of it is computed; since they fix every answer and byte, a version that leaves anything else there breaks one.
-use Rattle.sheet.proofs.sheet.Ran.{sheet-ran}
 use Prim.Native.Nat.{ℕ, zero, suc, _-_, _<_, _≤_}
 use mathlib.Core.Path.{_≡_, refl, sym, _∙_, ap, ap₂, subst}
 use mathlib.Core.Logic.{_⊎_, inl, inr, ⊎-elim}
@@ -29,16 +28,17 @@ use Rattle.rules.proofs.Opening.{opening, taking}
 use Rattle.rules.proofs.Searching.{solving, searching, lowest}
 use Rattle.rules.proofs.Cases.{case-proved}
 use Rattle.numbers.specs.shown.Encode.{IsBytes}
-use Rattle.numbers.specs.declared.Refusal.{Refusal}
 use Rattle.numbers.specs.Answer.{refusal, readThen, atomThen}
 use Rattle.numbers.specs.Number.{groupsFrom, numberAt, takenFrom, takenAt, withinAt}
 use Rattle.numbers.specs.Lists.{atomAt, inTurn, listAt, numbersFrom}
+use Rattle.numbers.specs.declared.Refusal.{Refusal}
 use Rattle.sheet.specs.Body.{weightAt, weightsAt, weighedAt, bodyAt}
 use Rattle.sheet.specs.Rule.{headThen, basicAt, boundedAt, choiceAt, ruleAt, ruleThen, ruleStep, rulesAt}
 use Rattle.sheet.specs.Sheet.{editionAt, tailAt, restAt, wholeAt, sheetRead, sheetThen}
 use Rattle.sheet.specs.Meaning.{paired, ruleMeant, rulesFrom, sheetMeant, sheetOf, accepted}
 use Rattle.sheet.specs.declared.Outline.{Outline}
 use Rattle.sheet.specs.declared.SheetRead.the-variants.{Accepted}
+use Rattle.sheet.proofs.sheet.Ran.{sheet-ran}
 use Rattle.sheet.proofs.Accepted.{outlined}
 use Rattle.gate.specs.Scan.{isContradiction}
 use Rattle.gate.specs.Gate.{openGate, pinGate, solveGate}

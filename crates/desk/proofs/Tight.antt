@@ -1,6 +1,5 @@
 -- Tight: two answers that meet one promise for the same input are equal, in the answer and in every lent byte. A refusal is named
 -- by the gate; a closed map is the least, which is unique, and not beside a contradiction; the first model is unique.
-use Rattle.desk.proofs.hand.Laws.{threes-are, threes-written}
 use Prim.Native.Nat.{ℕ, _+_, _<_}
 use mathlib.Core.Path.{_≡_, refl, sym, _∙_, ap, subst}
 use mathlib.Core.Logic.{_⊎_, inl, inr}
@@ -42,6 +41,7 @@ use Rattle.desk.specs.declared.Solved.the-variants.{Model as ModelFound,
 use Rattle.desk.specs.declared.Tested.{Tested}
 use Rattle.desk.specs.declared.Tested.the-variants.{Stable as IsStable, NotStable, Refused as RefusedTest}
 use Rattle.desk.specs.declared.MarginRead.{MarginRead}
+use Rattle.desk.proofs.hand.Laws.{threes-are, threes-written}
 
 -- both answers and both lists of bytes are equal
 abbrev pub Same : {A : Type 0} → A → A → List ℕ → List ℕ → Type 0

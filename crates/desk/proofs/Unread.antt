@@ -1,6 +1,5 @@
 -- "Bytes past n are never read or written", and open and solve do not read the old map: two calls whose lent maps agree in what may be
 -- read give the same answer and the same n bytes, since their gates and their questions are the same.
-use Rattle.gate.specs.declared.Task.{Task}
 use Prim.Native.Nat.{ℕ}
 use mathlib.Core.Path.{_≡_, refl, sym, _∙_, ap, subst, fun-ext}
 use mathlib.Core.Bool.{Bool, true, false}
@@ -23,6 +22,7 @@ use Rattle.sheet.proofs.Accepted.{numbered}
 use Rattle.sheet.proofs.sheet.Written.{meant}
 use Rattle.gate.specs.Scan.{isContradiction}
 use Rattle.gate.specs.Gate.{testGate, pinGate, marginGate}
+use Rattle.gate.specs.declared.Task.{Task}
 use Rattle.gate.specs.declared.Gate.{Gate}
 use Rattle.gate.specs.declared.Gate.the-variants.{Stop, Go}
 use Rattle.gate.proofs.Calls.{Lent, opens-through, solves-through, pin-through, test-goes, margin-through}

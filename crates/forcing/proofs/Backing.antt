@@ -4,8 +4,8 @@ use mathlib.Core.Path.{_≡_, refl, sym, _∙_, ap, subst}
 use mathlib.Core.Bool.{Bool, true, false}
 use mathlib.Core.List.{List, List·Memᴰ}
 use native.Mathlib.Omega.{arith}
-use borrow.Author.Tests.{eq-eqb}
 use lib.Dec.{T}
+use borrow.Author.Tests.{eq-eqb}
 use Rattle.rules.specs.Sum.{counted}
 use Rattle.rules.specs.Rule.{Rule, Within}
 use Rattle.rules.specs.Map.{Map, side, is, want, reach, _⊑_}
@@ -16,13 +16,13 @@ use Rattle.rules.proofs.Forced.{supports-head, supports-reach, to-supports, for
 use Rattle.table.specs.inner.Words.{pairAtom}
 use Rattle.table.specs.inner.Rows.{headsAt, positivesAt, needAt, rowRule}
 use Rattle.table.proofs.Words.{atoms-has}
+use Rattle.weigh.specs.inner.Press.{aim, Pressed, Due, PressesBody}
 use Rattle.weigh.specs.declared.Outcome.{Outcome}
 use Rattle.weigh.specs.declared.Outcome.the-variants.{Same}
-use Rattle.weigh.specs.inner.Press.{aim, Pressed, Due, PressesBody}
-use Rattle.forcing.specs.inner.Support.{Counts, Backed, Lone, NotLone, TellsLone, TellsAt, BackAsks, Backs}
-use Rattle.forcing.proofs.HeadScans.{Sofar, scan-more, scan-end}
 use Rattle.weigh.proofs.Bytes.{proper-map}
 use Rattle.weigh.proofs.Steps.{kept-refl, step-same, quieter}
+use Rattle.forcing.specs.inner.Support.{Counts, Backed, Lone, NotLone, TellsLone, TellsAt, BackAsks, Backs}
+use Rattle.forcing.proofs.HeadScans.{Sofar, scan-more, scan-end}
 
 -- whether a head is in and has one rule
 module _ (n : ℕ) (M : Map) (counts : List ℕ) (a a′ : ℕ) (e : a ≡ a′) where

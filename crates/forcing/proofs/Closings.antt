@@ -7,28 +7,28 @@ use mathlib.Core.List.{List}
 use mathlib.Core.Logic.{⊎-elim}
 use native.Mathlib.Omega.{arith}
 use native.Mathlib.Numerals.{add-one}
-use borrow.Author.Tests.{eq-eqb, ne-eqb}
 use lib.Dec.{eqb}
 use lib.ListN.{length, getD, take, drop, drop-of-length-le}
 use lib.Seq.{length-take-le, drop-cons, getD-take}
+use borrow.Author.Tests.{eq-eqb, ne-eqb}
 use Rattle.rules.specs.Sum.{counted, tally}
 use Rattle.rules.specs.Rule.{Rule, Within}
 use Rattle.rules.specs.Map.{Map, side, _⊑_, undecided}
 use Rattle.rules.specs.Forcing.{Closed, Least}
+use Rattle.rules.specs.inner.Bytes.{MapBytes}
+use Rattle.rules.proofs.Bytes.{side-at}
 use Rattle.table.specs.inner.Rows.{rowRule, tableRules, Laid}
 use Rattle.table.proofs.Rows.{Standing, rule-stands, rule-mem, laid-fits}
+use Rattle.weigh.specs.inner.Step.{Step, Till, isClash, isGrew, isSame}
 use Rattle.weigh.specs.declared.Outcome.{Outcome}
 use Rattle.weigh.specs.declared.Outcome.the-variants.{Clash, Same, Grew}
-use Rattle.forcing.specs.declared.Closing.the-variants.{NoneHolds, ClosedWith}
-use Rattle.weigh.specs.inner.Step.{Step, Till, isClash, isGrew, isSame}
-use Rattle.rules.specs.inner.Bytes.{MapBytes}
+use Rattle.weigh.proofs.Bytes.{proper-map, equal?}
+use Rattle.weigh.proofs.Steps.{kept-refl, kept-trans, forces-refl, forces-trans, step-same, quieter, step-joined}
 use Rattle.forcing.specs.inner.Heads.{Settled, SettlesAll}
 use Rattle.forcing.specs.inner.Support.{Counts, Backed, BacksAll}
 use Rattle.forcing.specs.inner.Ground.{ListsFounded, Drops, Unless}
 use Rattle.forcing.specs.inner.Rounds.{LowestAt, Summed, Forcing, BackedAll, FoundedAll, Closes, ClosesMap}
-use Rattle.rules.proofs.Bytes.{side-at}
-use Rattle.weigh.proofs.Bytes.{proper-map, equal?}
-use Rattle.weigh.proofs.Steps.{kept-refl, kept-trans, forces-refl, forces-trans, step-same, quieter, step-joined}
+use Rattle.forcing.specs.declared.Closing.the-variants.{NoneHolds, ClosedWith}
 use Rattle.forcing.proofs.Founding.{unfounded-out}
 
 -- an outcome that is not the same is not quiet for anything

@@ -6,9 +6,9 @@ use mathlib.Core.Bool.{Bool, true, false, not, _&&_, _||_, and-true, and-false}
 use mathlib.Core.Logic.{⊎-elim}
 use mathlib.Core.List.{List}
 use native.Mathlib.Omega.{arith}
-use borrow.Author.Tests.{eq-eqb, ne-eqb, le-leb}
 use lib.Dec.{T, eqb}
 use lib.ListN.{length, set}
+use borrow.Author.Tests.{eq-eqb, ne-eqb, le-leb}
 use Rattle.rules.specs.Limits.{rulesMost}
 use Rattle.rules.specs.Sum.{counted, tally, has}
 use Rattle.rules.specs.Rule.{Within}
@@ -17,13 +17,13 @@ use Rattle.rules.specs.Forcing.{supports, supporters}
 use Rattle.rules.proofs.Tests.{eq-T, T-true, T-false, T-same, and-T, T-and-left, T-and-right, decided, T-eq, T-ne}
 use Rattle.rules.proofs.Sum.{counted-most}
 use Rattle.rules.proofs.Forced.{supports-head, supports-reach}
+use Rattle.rules.proofs.Bytes.{written-same, written-other}
 use Rattle.table.specs.inner.Words.{pairAtom, segAtoms}
 use Rattle.table.specs.inner.Rows.{headsAt, positivesAt, needAt, rowRule, rowRules, tableRules, Row}
 use Rattle.table.proofs.Words.{AtomFound, atoms-listed, has-done, has-next}
 use Rattle.table.proofs.Rows.{heads-apart, rules-done, rows-next}
-use Rattle.forcing.specs.inner.Support.{Counts, Small, Adds, Counting, Heading, Stirs}
-use Rattle.rules.proofs.Bytes.{written-same, written-other}
 use Rattle.weigh.proofs.Bytes.{equal?}
+use Rattle.forcing.specs.inner.Support.{Counts, Small, Adds, Counting, Heading, Stirs}
 
 -- one more at one atom
 module _ (n : ℕ) (counts : List ℕ) (a : ℕ) (w : Within n a) (room : n ≤ length counts) where

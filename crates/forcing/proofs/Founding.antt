@@ -12,18 +12,18 @@ use Rattle.rules.specs.Rule.{Rule, Weighted, Within, body}
 use Rattle.rules.specs.Stable.{Set, value}
 use Rattle.rules.specs.Map.{Map, side, is, isnt, _⊑_, undecided}
 use Rattle.rules.specs.Forcing.{Closed, Grounds, Founded}
+use Rattle.rules.specs.inner.Bytes.{MapBytes}
 use Rattle.rules.proofs.Tests.{eq-T, T-eq, ne-T, T-ne}
 use Rattle.rules.proofs.Value.{by, value-same}
 use Rattle.rules.proofs.Maps.{want-decided}
 use Rattle.rules.proofs.Forced.{forced-fourth}
 use Rattle.table.specs.inner.Rows.{rowRule, tableRules}
 use Rattle.table.proofs.Rows.{Standing, rule-stands}
+use Rattle.weigh.specs.inner.Step.{Concludes, Kept, Till, both, isClash, isGrew}
 use Rattle.weigh.specs.declared.Outcome.{Outcome}
 use Rattle.weigh.specs.declared.Outcome.the-variants.{Clash, Same, Grew}
-use Rattle.weigh.specs.inner.Step.{Concludes, Kept, Till, both, isClash, isGrew}
-use Rattle.rules.specs.inner.Bytes.{MapBytes}
-use Rattle.forcing.specs.inner.Ground.{PutsUnless, Unless, Grounding, Grounded, GroundsAll, Blank, Founding, ListsFounded, Drops}
 use Rattle.weigh.proofs.Steps.{kept-refl, kept-trans, forces-refl, forces-trans, concludes-on, clash-any, steps-begin, steps-more, steps-end}
+use Rattle.forcing.specs.inner.Ground.{PutsUnless, Unless, Grounding, Grounded, GroundsAll, Blank, Founding, ListsFounded, Drops}
 use Rattle.forcing.proofs.Groundings.{sided-out, kept-unless, step-unless}
 
 -- the map that stands for a set

@@ -10,19 +10,19 @@ use lib.Dec.{T}
 use Rattle.rules.specs.Rule.{Weighted, Within, body}
 use Rattle.rules.specs.Stable.{value}
 use Rattle.rules.specs.Map.{Map, side, is, isnt, _⊑_}
+use Rattle.rules.specs.inner.Bytes.{MapBytes}
 use Rattle.rules.proofs.Tests.{eq-T, T-eq}
 use Rattle.rules.proofs.Value.{by, value-mono}
 use Rattle.table.specs.inner.Words.{pairAtom}
 use Rattle.table.specs.inner.Rows.{headsAt, positivesAt, needAt, rowRule}
 use Rattle.table.proofs.Words.{AtomFound, atoms-listed, atoms-has}
+use Rattle.weigh.specs.inner.Step.{Concludes, Decided, Kept, Step, Till, Puts, both}
 use Rattle.weigh.specs.declared.Outcome.{Outcome}
 use Rattle.weigh.specs.declared.Outcome.the-variants.{Same}
-use Rattle.weigh.specs.inner.Step.{Concludes, Decided, Kept, Step, Till, Puts, both}
-use Rattle.rules.specs.inner.Bytes.{MapBytes}
-use Rattle.forcing.specs.inner.Ground.{PutsUnless, Unless, Grounding, Grounded, Full, Lacks, Misses, GroundAsks, GroundsHeads, GroundsRule}
 use Rattle.weigh.proofs.Bytes.{equal?}
-use Rattle.forcing.proofs.HeadScans.{Sofar, scan-more, scan-end}
 use Rattle.weigh.proofs.Steps.{kept-refl, kept-trans, kept-put, concludes-on, step-same, quieter, steps-begin, steps-more, steps-end, step-put}
+use Rattle.forcing.specs.inner.Ground.{PutsUnless, Unless, Grounding, Grounded, Full, Lacks, Misses, GroundAsks, GroundsHeads, GroundsRule}
+use Rattle.forcing.proofs.HeadScans.{Sofar, scan-more, scan-end}
 
 pub sided-in : Decided 1
 sided-in = record { low = omega arith; high = omega arith }

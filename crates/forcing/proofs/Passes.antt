@@ -5,8 +5,8 @@ use mathlib.Core.Bool.{Bool, true, false}
 use mathlib.Core.List.{List}
 use native.Mathlib.Omega.{arith}
 use Rattle.rules.specs.Map.{Map}
-use Rattle.weigh.specs.declared.Outcome.{Outcome}
 use Rattle.weigh.specs.inner.Step.{Step, Till}
+use Rattle.weigh.specs.declared.Outcome.{Outcome}
 use Rattle.forcing.specs.inner.Pass.{placed}
 
 pub placed-less : (down : Bool) (count i : ℕ) → i < count → placed down count i < count

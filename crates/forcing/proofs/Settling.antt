@@ -10,18 +10,18 @@ use Rattle.rules.specs.Sum.{has}
 use Rattle.rules.specs.Rule.{Rule, Within, chooses}
 use Rattle.rules.specs.Map.{Map, side, want, sure}
 use Rattle.rules.specs.Forcing.{Closed}
+use Rattle.rules.specs.inner.Bytes.{MapBytes}
 use Rattle.rules.proofs.Tests.{true-T}
 use Rattle.rules.proofs.Forced.{forced-first, forced-third}
 use Rattle.table.specs.inner.Words.{pairAtom}
 use Rattle.table.specs.inner.Rows.{headsAt, positivesAt, kindAt, needAt, rowRule, Row}
 use Rattle.table.proofs.Words.{AtomFound, atoms-listed, atoms-has}
+use Rattle.weigh.specs.inner.Step.{Concludes, Puts}
+use Rattle.weigh.specs.inner.Press.{aim, Pressed, Due, PressesBody}
 use Rattle.weigh.specs.declared.Outcome.{Outcome}
 use Rattle.weigh.specs.declared.Outcome.the-variants.{Same}
-use Rattle.weigh.specs.inner.Step.{Concludes, Puts}
-use Rattle.rules.specs.inner.Bytes.{MapBytes}
-use Rattle.weigh.specs.inner.Press.{aim, Pressed, Due, PressesBody}
-use Rattle.forcing.specs.inner.Heads.{Settled, Settles, HeadAsks}
 use Rattle.weigh.proofs.Steps.{kept-refl, kept-put, step-same, quieter, step-put}
+use Rattle.forcing.specs.inner.Heads.{Settled, Settles, HeadAsks}
 
 -- a literal made false is on the side that its sign does not want
 denied : (s : Bool) → aim false s ≡ want (not s)

@@ -1,26 +1,26 @@
 -- The gates of the calls: with what each lets its call go on, and where. Both follow step by step.
-use lib.ListN.{length}
-use borrow.Author.Tests.{le-ltb, eq-eqb, ne-eqb, eqb-false}
-use Rattle.numbers.specs.Answer.{refusal, atomThen}
-use lib.Dec.{eqb}
-use Rattle.gate.specs.Scan.{isContradiction, mapFault}
-use Rattle.gate.specs.declared.Ask.{Ask}
 use Prim.Native.Nat.{ℕ, _≤_}
 use mathlib.Core.Path.{_≡_, refl, sym, _∙_, ap, subst}
 use mathlib.Core.Bool.{Bool, true, false}
 use mathlib.Core.List.{List}
 use mathlib.Core.Logic.{⊎-elim}
 use native.Mathlib.Omega.{arith}
-use Rattle.rules.proofs.Inside.{atom-made, no-atom-made, within?}
+use lib.ListN.{length}
+use lib.Dec.{eqb}
+use borrow.Author.Tests.{le-ltb, eq-eqb, ne-eqb, eqb-false}
 use Rattle.rules.specs.Sum.{pick}
 use Rattle.rules.specs.Rule.{Within}
 use Rattle.rules.specs.Map.{Whole}
 use Rattle.rules.specs.inner.Bytes.{Room}
+use Rattle.rules.proofs.Inside.{atom-made, no-atom-made, within?}
+use Rattle.numbers.specs.Answer.{refusal, atomThen}
 use Rattle.sheet.specs.Sheet.{sheetRead, sheetThen}
 use Rattle.sheet.specs.declared.Outline.{Outline}
 use Rattle.sheet.specs.declared.SheetRead.the-variants.{Accepted}
+use Rattle.gate.specs.Scan.{isContradiction, mapFault}
 use Rattle.gate.specs.Gate.{openGate, thenRoom, solveGate, testGate, pinGate, marginGate, partGate, sheetGate, thenStay, goThen, thenMap, thenPin}
 use Rattle.gate.specs.inner.Fit.{TaskFits, Fit, GateFits}
+use Rattle.gate.specs.declared.Ask.{Ask}
 use Rattle.gate.specs.declared.Ask.the-variants.{Margin, Part}
 use Rattle.gate.specs.declared.Task.{Task}
 use Rattle.gate.specs.declared.Task.the-variants.{Stay, Open, Pin, Solve, Test, Rule}

@@ -1,33 +1,33 @@
 -- What a gate has tested where it lets a call go on: each step hands on the outline that it was given, and has passed its own test.
-use Rattle.rules.proofs.Inside.{atom-is, rule-is}
-use Rattle.rules.proofs.Tests.{T-eq, true-T}
-use Rattle.rules.specs.declared.RuleNo.{RuleNo}
-use Rattle.rules.specs.Number.{checkedAtom, checkedRule}
-use Rattle.rules.specs.declared.Atom.{Atom}
-use lib.ListN.{length}
-use Rattle.rules.specs.declared.RuleOr.{RuleOr}
-use Rattle.rules.specs.declared.RuleOr.the-variants.{Is, Not}
-use lib.Dec.{ltb, eqb}
-use Rattle.numbers.specs.Answer.{refusal}
-use Rattle.gate.specs.declared.Ask.{Ask}
-use Rattle.rules.specs.Rule.{Within}
-use Rattle.gate.specs.Scan.{isContradiction, mapFault, modelFault}
 use Prim.Native.Nat.{ℕ, _≤_}
 use mathlib.Core.Path.{_≡_, refl, sym, _∙_, ap, subst}
 use mathlib.Core.Bool.{Bool, false, true}
 use mathlib.Core.List.{List}
 use native.Mathlib.Omega.{arith}
+use lib.ListN.{length}
+use lib.Dec.{ltb, eqb}
+use borrow.Author.Tests.{ltb-false}
+use Rattle.rules.specs.Number.{checkedAtom, checkedRule}
+use Rattle.rules.specs.Rule.{Within}
 use Rattle.rules.specs.Sum.{pick}
+use Rattle.rules.specs.inner.Bytes.{Room}
+use Rattle.rules.specs.declared.RuleNo.{RuleNo}
+use Rattle.rules.specs.declared.Atom.{Atom}
+use Rattle.rules.specs.declared.RuleOr.{RuleOr}
+use Rattle.rules.specs.declared.RuleOr.the-variants.{Is, Not}
+use Rattle.rules.proofs.Inside.{atom-is, rule-is}
+use Rattle.rules.proofs.Tests.{T-eq, true-T}
+use Rattle.numbers.specs.Answer.{refusal}
 use Rattle.numbers.specs.declared.Refusal.{Refusal}
 use Rattle.numbers.proofs.Answer.{from-no, from-atom}
 use Rattle.sheet.specs.Sheet.{sheetRead, sheetThen}
 use Rattle.sheet.specs.declared.Outline.{Outline}
 use Rattle.sheet.specs.declared.SheetRead.{SheetRead}
 use Rattle.sheet.specs.declared.SheetRead.the-variants.{Accepted, Refused}
+use Rattle.gate.specs.Scan.{isContradiction, mapFault, modelFault}
 use Rattle.gate.specs.Gate.{goThen, sheetGate, thenRoom, thenMap, thenModel, thenMargin, thenStay, thenPin, thenRule, ruleNoThen}
+use Rattle.gate.specs.declared.Ask.{Ask}
 use Rattle.gate.specs.declared.Task.{Task}
-use Rattle.rules.specs.inner.Bytes.{Room}
-use borrow.Author.Tests.{ltb-false}
 use Rattle.gate.specs.declared.Task.the-variants.{Stay, Pin, Rule}
 use Rattle.gate.specs.declared.Gate.{Gate}
 use Rattle.gate.specs.declared.Gate.the-variants.{Stop, Go}

@@ -1,10 +1,5 @@
 -- What stops a call has one of the refusals' numbers and a place up to the limit of bytes: a sheet's own refusals have, the calls' are at
 -- 0, and a fault in a map is below n. Each step keeps that of the gate before it.
-use Rattle.rules.specs.Sum.{pick}
-use Rattle.gate.specs.declared.Task.the-variants.{Rule}
-use Rattle.gate.specs.declared.Ask.the-variants.{Part, Margin}
-use Rattle.gate.specs.declared.Task.the-variants.{Solve, Test, Stay, Open}
-use Rattle.numbers.specs.Answer.{refusal}
 use Prim.Native.Nat.{ℕ, _≤_}
 use mathlib.Core.Path.{_≡_, refl}
 use mathlib.Core.Bool.{Bool}
@@ -12,10 +7,12 @@ use mathlib.Core.List.{List}
 use native.Mathlib.Omega.{arith}
 use lib.Dec.{ltb, eqb}
 use borrow.Author.Tests.{ltb-true}
+use Rattle.rules.specs.Sum.{pick}
 use Rattle.rules.specs.Limits.{atomsMost, bytesMost, highestRefusal}
 use Rattle.rules.specs.Number.{checkedAtom, checkedRule}
 use Rattle.rules.specs.declared.RuleOr.{RuleOr}
 use Rattle.rules.specs.declared.RuleOr.the-variants.{Is, Not}
+use Rattle.numbers.specs.Answer.{refusal}
 use Rattle.numbers.proofs.Places.{Placed, placed, pick-so, atom-so}
 use Rattle.sheet.specs.Sheet.{sheetRead, sheetThen}
 use Rattle.sheet.specs.Meaning.{sheetMeant}
@@ -26,6 +23,8 @@ use Rattle.sheet.proofs.Places.{refused-small}
 use Rattle.sheet.proofs.sheet.Ran.{sheet-ran}
 use Rattle.gate.specs.Scan.{isContradiction, mapFault, modelFault}
 use Rattle.gate.specs.Gate.{goThen, ruleNoThen, orFault, sheetGate, thenRoom, thenPin, thenRule, thenMap, thenModel, thenMargin, thenStay, openGate, solveGate, testGate, pinGate, marginGate, partGate}
+use Rattle.gate.specs.declared.Task.the-variants.{Rule, Solve, Test, Stay, Open}
+use Rattle.gate.specs.declared.Ask.the-variants.{Part, Margin}
 use Rattle.gate.specs.declared.Ask.{Ask}
 use Rattle.gate.specs.declared.Task.{Task}
 use Rattle.gate.specs.declared.Gate.{Gate}

@@ -5,11 +5,11 @@ use mathlib.Core.Bool.{Bool, true, false}
 use native.Mathlib.Omega.{arith}
 use lib.Dec.{leb}
 use borrow.Author.Tests.{lt-ltb, le-ltb, le-leb, lt-leb, eq-eqb, ne-eqb}
+use Rattle.rules.specs.Sum.{pick}
 use Rattle.rules.specs.declared.Atom.{Atom}
 use Rattle.rules.specs.declared.AtomOr.{AtomOr}
 use Rattle.rules.specs.declared.AtomOr.the-variants.{Is, Not}
 use Rattle.numbers.specs.Answer.{readThen, atomThen}
-use Rattle.rules.specs.Sum.{pick}
 use Rattle.numbers.specs.declared.Refusal.{Refusal}
 use Rattle.numbers.specs.declared.Span.{Span}
 use Rattle.numbers.specs.declared.Read.{Read}

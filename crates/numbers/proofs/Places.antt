@@ -10,11 +10,11 @@ use lib.Dec.{ltb, leb, eqb}
 use borrow.Author.Tests.{ltb-true}
 use Rattle.rules.specs.Limits.{highestRefusal}
 use Rattle.rules.specs.Number.{checkedAtom}
+use Rattle.rules.specs.Sum.{pick}
 use Rattle.rules.specs.declared.Atom.{Atom}
 use Rattle.rules.specs.declared.AtomOr.{AtomOr}
 use Rattle.rules.specs.declared.AtomOr.the-variants.{Is, Not}
 use Rattle.numbers.specs.Answer.{refusal, readThen, atomThen}
-use Rattle.rules.specs.Sum.{pick}
 use Rattle.numbers.specs.Number.{groupsFrom, numberAt, withinAt}
 use Rattle.numbers.specs.Lists.{atomAt, upTo, inTurn, listAt}
 use Rattle.numbers.specs.declared.Refusal.{Refusal}

@@ -4,8 +4,8 @@ use Prim.Native.Nat.{ℕ, zero, suc}
 use mathlib.Core.List.{List, [], _∷_}
 use lib.Dec.{leb}
 use Rattle.rules.specs.Number.{checkedAtom}
-use Rattle.numbers.specs.Answer.{refusal, span, readThen, atomThen}
 use Rattle.rules.specs.Sum.{pick}
+use Rattle.numbers.specs.Answer.{refusal, span, readThen, atomThen}
 use Rattle.numbers.specs.Number.{numberAt, withinAt, takenAt}
 use Rattle.numbers.specs.declared.Span.{Span}
 use Rattle.numbers.specs.declared.Read.{Read}

@@ -5,8 +5,8 @@ use mathlib.Core.Path.{_≡_, refl, sym, ap, ap₂, _∙_}
 use mathlib.Core.Bool.{Bool}
 use mathlib.Core.List.{List, _∷_, map}
 use native.Mathlib.Omega.{arith}
-use denote.Ref.{RefT, now}
 use borrow.Author.Tests.{ne-eqb}
+use denote.Ref.{RefT, now}
 use Rattle.rules.specs.Rule.{Rule, Sheet}
 use Rattle.rules.specs.Sum.{pick}
 use Rattle.numbers.specs.Lists.{inTurn, upTo}

@@ -1,6 +1,5 @@
 -- A map held in bytes: atom a at index a - 1. Writing a side to an undecided atom's byte gives the map that is above the old one
 -- and below every map above the old one that has the atom on that side. Two lists that agree on the map and past it are equal.
-use Rattle.rules.specs.Sum.{tally}
 use Prim.Native.Nat.{ℕ, _+_, _-_, _≤_, _<_}
 use mathlib.Core.Path.{_≡_, refl, sym, _∙_, ap}
 use mathlib.Core.Logic.{⊎-elim}
@@ -11,6 +10,7 @@ use native.Mathlib.Nat.{min-le-left}
 use lib.ListN.{length, getD, set, drop, length-drop, take, length-take}
 use lib.Seq.{getD-set-same, getD-set-other, ext-getD, getD-drop, length-take-le, getD-take}
 use lib.Dec.{T, eqb}
+use Rattle.rules.specs.Sum.{tally}
 use Rattle.rules.specs.Rule.{Within}
 use Rattle.rules.specs.Map.{Map, IsMap, Over, Written, side, signed, want, _⊑_, undecided}
 use Rattle.rules.proofs.Tests.{decided, T-eq, T-ne, below?}

@@ -1,12 +1,12 @@
 -- Forcing loses no agreeing stable model: the model's total map is closed and holds the compute lists, so the least such map is
 -- below it.
-use Rattle.rules.specs.Sum.{has}
-use lib.Dec.{T, T-not}
 use Prim.Native.Nat.{ℕ}
 use mathlib.Core.Path.{_≡_, sym, _∙_, subst}
 use mathlib.Core.Logic.{⊎-elim}
 use mathlib.Core.Bool.{false, true}
 use mathlib.Core.List.{List, map, List·Memᴰ, List·Memᴰ·append-cases, Memᴰ·append-left, Memᴰ·append-right}
+use lib.Dec.{T, T-not}
+use Rattle.rules.specs.Sum.{has}
 use Rattle.rules.specs.Rule.{Sheet}
 use Rattle.rules.specs.inner.Fits.{Numbered}
 use Rattle.rules.specs.Stable.{Set, Agrees, Model, NoModel}

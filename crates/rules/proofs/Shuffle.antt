@@ -1,8 +1,7 @@
 -- The order of the rules changes nothing: every definition asks of the list only which rules it has, and how many of them pass a
 -- test, and both are the same after a change of order.
-use mathlib.Core.Bool.{true, false}
-use Rattle.rules.proofs.Least.{holding-append, least-same, contradiction-same, least-alike, contradiction-alike, holding-left, holding-set, holding-right, same-sym}
 use Prim.Native.Nat.{ℕ}
+use mathlib.Core.Bool.{true, false}
 use mathlib.Core.Path.{_≡_, sym, subst, _∙_, ap₂}
 use mathlib.Core.List.{List, List·Memᴰ, List·Permᴰ, Permᴰ·symm, map, _++_}
 use lib.Dec.{T}
@@ -11,6 +10,7 @@ use Rattle.rules.specs.Rule.{Rule, Sheet, Shuffled}
 use Rattle.rules.specs.Stable.{Set, Stable, Model, First}
 use Rattle.rules.specs.Map.{Map, Literal, Holding, signed}
 use Rattle.rules.specs.Forcing.{Closed, Founded, Grounds, supports, supporters, SameSet, computed, Pinned, Least, Contradiction}
+use Rattle.rules.proofs.Least.{holding-append, least-same, contradiction-same, least-alike, contradiction-alike, holding-left, holding-set, holding-right, same-sym}
 use Rattle.rules.proofs.Sum.{tally-perm}
 use Rattle.rules.proofs.Members.{perm-mem}
 

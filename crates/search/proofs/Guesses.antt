@@ -10,16 +10,16 @@ use lib.ListN.{length, getD, take, set}
 use lib.Dec.{eqb}
 use Rattle.rules.specs.Sum.{tally}
 use Rattle.rules.specs.Map.{Map, Over, side, signed, want, _⊑_, undecided}
+use Rattle.rules.specs.inner.Bytes.{MapBytes}
 use Rattle.rules.proofs.Tests.{eq-T, T-eq}
 use Rattle.rules.proofs.Sum.{counted-mono}
 use Rattle.rules.proofs.Maps.{sides, want-decided}
 use Rattle.rules.proofs.Bytes.{side-index, over-written, written-over}
 use Rattle.rules.proofs.Least.{least-same, contradiction-same}
-use Rattle.rules.specs.inner.Bytes.{MapBytes}
+use Rattle.weigh.proofs.Bytes.{proper-put, fewer-put, proper-map}
 use Rattle.forcing.specs.inner.Rounds.{ClosesMap}
 use Rattle.forcing.specs.declared.Closing.{Closing}
 use Rattle.forcing.specs.declared.Closing.the-variants.{NoneHolds, ClosedWith}
-use Rattle.weigh.proofs.Bytes.{proper-put, fewer-put, proper-map}
 use Rattle.search.specs.inner.Search.{Open, Tries}
 use Rattle.search.proofs.Branches.{within, lowest-low}
 

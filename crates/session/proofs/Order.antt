@@ -1,7 +1,7 @@
 -- Demand 3 for a session: its calls keep the promises of open and pin on its own map, which starts as the same 512 bytes, so two
 -- sessions end alike in every byte.
-use mathlib.Core.Path.{_≡_, sym, _∙_}
 use Prim.Native.Nat.{ℕ}
+use mathlib.Core.Path.{_≡_, sym, _∙_}
 use mathlib.Core.List.{List}
 use Rattle.rules.specs.Rule.{Sheet, Shuffled}
 use Rattle.rules.specs.Forcing.{SameSet}

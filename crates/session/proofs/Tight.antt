@@ -3,10 +3,10 @@
 use Prim.Native.Nat.{ℕ}
 use mathlib.Core.Path.{_≡_, sym, _∙_, ap}
 use mathlib.Core.List.{List}
+use Rattle.rules.specs.Map.{blank}
 use Rattle.desk.specs.Promise.{Opens, Pins}
 use Rattle.desk.specs.declared.Opened.{Opened}
 use Rattle.desk.proofs.Tight.{opens-tight, pins-tight}
-use Rattle.rules.specs.Map.{blank}
 use Rattle.session.specs.declared.Session.{Session}
 
 -- sessions with the same map are the same

@@ -1,7 +1,7 @@
 -- "A desk session: one record with a map of 512 bytes, all 0 at first, changed in place through `&mut`." A run of a session: it is
 -- started, an accepted sheet is opened on it, and then pinned; each call with its promise.
-use mathlib.Core.Path.{_≡_}
 use Prim.Native.Nat.{ℕ}
+use mathlib.Core.Path.{_≡_}
 use mathlib.Core.List.{List}
 use Rattle.rules.specs.Rule.{Sheet}
 use Rattle.rules.specs.Map.{blank}

@@ -8,8 +8,8 @@ use lib.Dec.{T}
 use borrow.Author.Tests.{lt-ltb}
 use Rattle.rules.specs.Limits.{atomsMost, rulesMost, bytesMost, weightMost}
 use Rattle.rules.specs.Number.{checkedAtom}
-use Rattle.numbers.specs.Answer.{refusal, readThen, atomThen}
 use Rattle.rules.specs.Sum.{pick}
+use Rattle.numbers.specs.Answer.{refusal, readThen, atomThen}
 use Rattle.numbers.specs.Number.{groupsFrom, numberAt, withinAt}
 use Rattle.numbers.specs.Lists.{atomAt, inTurn, listAt}
 use Rattle.numbers.specs.shown.Encode.{groupsOf, numberBytes}

@@ -3,9 +3,9 @@ use Prim.Native.Nat.{ℕ, zero, suc}
 use mathlib.Core.List.{List, [], _∷_}
 use Rattle.rules.specs.Rule.{Rule, Weighted, Sheet, basicRule, constraintRule, choiceRule, weightRule}
 use Rattle.numbers.specs.Lists.{numbersOf}
+use Rattle.numbers.specs.declared.Refusal.{Refusal}
 use Rattle.sheet.specs.Rule.{ruleAt, ruleThen}
 use Rattle.sheet.specs.Sheet.{sheetRead, sheetThen}
-use Rattle.numbers.specs.declared.Refusal.{Refusal}
 use Rattle.sheet.specs.declared.SheetKind.{SheetKind}
 use Rattle.sheet.specs.declared.SheetKind.the-variants.{Basic, Constraint, Choice, Weight}
 use Rattle.sheet.specs.declared.Literals.{Literals}

@@ -11,9 +11,9 @@ use mathlib.Core.List.{List}
 use lib.Dec.{eqb}
 use Rattle.rules.specs.Rule.{basic, constraint, choice, weight, kindNumber}
 use Rattle.rules.specs.Number.{checkedAtom}
+use Rattle.rules.specs.Sum.{pick}
 use Rattle.rules.specs.declared.Atom.{Atom}
 use Rattle.numbers.specs.Answer.{refusal, span, readThen, atomThen}
-use Rattle.rules.specs.Sum.{pick}
 use Rattle.numbers.specs.Number.{numberAt}
 use Rattle.numbers.specs.Lists.{inTurn, listAt}
 use Rattle.numbers.specs.declared.Refusal.{Refusal}

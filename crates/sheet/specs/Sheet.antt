@@ -7,15 +7,15 @@ use mathlib.Core.List.{List}
 use lib.ListN.{length}
 use lib.Dec.{ltb, eqb}
 use Rattle.rules.specs.Limits.{atomsMost, rulesMost, bytesMost}
-use Rattle.numbers.specs.Answer.{refusal, readThen}
 use Rattle.rules.specs.Sum.{pick}
+use Rattle.numbers.specs.Answer.{refusal, readThen}
 use Rattle.numbers.specs.Number.{numberAt, withinAt}
 use Rattle.numbers.specs.Lists.{listAt}
-use Rattle.sheet.specs.Rule.{rulesAt}
 use Rattle.numbers.specs.declared.Refusal.{Refusal}
 use Rattle.numbers.specs.declared.Span.{Span}
 use Rattle.numbers.specs.declared.Read.{Read}
 use Rattle.numbers.specs.declared.Read.the-variants.{Got, Refused}
+use Rattle.sheet.specs.Rule.{rulesAt}
 use Rattle.sheet.specs.declared.Outline.{Outline}
 use Rattle.sheet.specs.declared.SheetRead.{SheetRead}
 use Rattle.sheet.specs.declared.SheetRead.the-variants.{Accepted, Refused as RefusedSheet}

@@ -1,7 +1,7 @@
 -- Lines that are computed from the definitions.
+use Prim.Native.Nat.{ℕ}
 use mathlib.Core.Path.{_≡_, refl}
 use mathlib.Core.List.{List, [], _∷_}
-use Prim.Native.Nat.{ℕ}
 use Rattle.text.specs.Line.{digitsIn, digits, spaced, spacedAll, inAtoms, modelLine, noneLine, refusedLine}
 
 -- MODEL 1, MODEL, and MODEL 2 10 of ten atoms

@@ -6,17 +6,17 @@ use mathlib.Core.Bool.{Bool}
 use mathlib.Core.Logic.{_⊎_, inl, inr, ⊎-elim}
 use mathlib.Core.List.{List, [], _∷_}
 use native.Mathlib.Omega.{arith}
-use borrow.Author.Tests.{eq-eqb, ne-eqb}
 use lib.Dec.{eqb}
 use lib.ListN.{length, getD, take, set, length-set, replicate, length-replicate, getD-replicate}
 use lib.Seq.{getD-set-same, getD-set-other}
+use borrow.Author.Tests.{eq-eqb, ne-eqb}
 use Rattle.rules.specs.Sum.{counted, tally}
 use Rattle.rules.specs.Rule.{Within}
 use Rattle.rules.specs.Map.{IsMap, side, undecided}
+use Rattle.rules.specs.inner.Bytes.{MapBytes}
 use Rattle.rules.proofs.Tests.{decided, T-eq, T-ne}
 use Rattle.rules.proofs.Inside.{within?}
 use Rattle.rules.proofs.Bytes.{side-at, side-beyond, side-map}
-use Rattle.rules.specs.inner.Bytes.{MapBytes}
 
 -- two numbers are equal, or they differ
 pub equal? : (x y : ℕ) → (x ≡ y) ⊎ (x ≡ y → ⊥)

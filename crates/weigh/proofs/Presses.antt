@@ -9,16 +9,16 @@ use native.Mathlib.Omega.{arith}
 use Rattle.rules.specs.Rule.{Rule, Weighted}
 use Rattle.rules.specs.Map.{Map, side, want, _⊑_}
 use Rattle.rules.specs.Forcing.{Closed}
+use Rattle.rules.specs.inner.Bytes.{MapBytes}
 use Rattle.rules.proofs.Maps.{sides, want-decided}
 use Rattle.table.specs.inner.Words.{pairAtom, pairWeight, pairAt}
 use Rattle.table.specs.inner.Rows.{rowRule, from, to}
 use Rattle.table.proofs.Words.{PairFound, seg-found, seg-mem}
 use Rattle.table.proofs.Rows.{body-seg}
+use Rattle.weigh.specs.inner.Step.{Decided, Till, Puts, both}
+use Rattle.weigh.specs.inner.Press.{PairPressed, PairDue, PairAsks, PressesPair, Presses, aim, Pressed, Due, PressesBody}
 use Rattle.weigh.specs.declared.Outcome.{Outcome}
 use Rattle.weigh.specs.declared.Outcome.the-variants.{Same}
-use Rattle.weigh.specs.inner.Step.{Decided, Till, Puts, both}
-use Rattle.rules.specs.inner.Bytes.{MapBytes}
-use Rattle.weigh.specs.inner.Press.{PairPressed, PairDue, PairAsks, PressesPair, Presses, aim, Pressed, Due, PressesBody}
 use Rattle.weigh.proofs.Bytes.{proper-map}
 use Rattle.weigh.proofs.Steps.{kept-refl, kept-trans, kept-put, concludes-on, step-same, quieter, step-joined, steps-begin, steps-more, steps-end, step-put}
 

@@ -11,12 +11,12 @@ use lib.ListN.{set, length-set}
 use lib.Seq.{getD-set-other}
 use Rattle.rules.specs.Rule.{Within}
 use Rattle.rules.specs.Map.{Map, side, want, _⊑_}
+use Rattle.rules.specs.inner.Bytes.{MapBytes}
 use Rattle.rules.proofs.Maps.{⊑-refl, ⊑-trans, sides}
+use Rattle.rules.proofs.Bytes.{written-above, written-below}
+use Rattle.weigh.specs.inner.Step.{Forces, Clashes, Concludes, Kept, Grown, Went, Step, both, isClash, Till, Decided, Puts}
 use Rattle.weigh.specs.declared.Outcome.{Outcome}
 use Rattle.weigh.specs.declared.Outcome.the-variants.{Clash, Same, Grew}
-use Rattle.weigh.specs.inner.Step.{Forces, Clashes, Concludes, Kept, Grown, Went, Step, both, isClash, Till, Decided, Puts}
-use Rattle.rules.specs.inner.Bytes.{MapBytes}
-use Rattle.rules.proofs.Bytes.{written-above, written-below}
 use Rattle.weigh.proofs.Bytes.{proper-map, proper-put, fewer-put}
 
 pub kept-refl : (n : ℕ) (m : List ℕ) → MapBytes n m → Kept n m m

@@ -5,8 +5,8 @@ use mathlib.Core.List.{List, [], _∷_}
 use native.Mathlib.Omega.{arith}
 use lib.ListN.{length}
 use Rattle.rules.specs.Rule.{Weighted, weighted}
-use Rattle.table.specs.inner.Words.{pairWidth}
 use Rattle.sheet.specs.Meaning.{paired}
+use Rattle.table.specs.inner.Words.{pairWidth}
 use Rattle.decode.specs.inner.Pairs.{withPairs, PairsFit, PairsCopied}
 use Rattle.decode.proofs.pairs.Laws.{pair-long, pairs-long}
 

@@ -6,8 +6,8 @@ use mathlib.Core.List.{List, [], _∷_}
 use native.Mathlib.Omega.{arith}
 use lib.ListN.{length, set, length-set}
 use Rattle.rules.specs.Rule.{Rule, ones}
-use Rattle.table.specs.inner.Words.{rowWidth, pairWidth, wordAt}
 use Rattle.sheet.specs.shown.Encode.{rulesSize}
+use Rattle.table.specs.inner.Words.{rowWidth, pairWidth, wordAt}
 use Rattle.decode.specs.inner.Rows.{positivesFrom, negativesFrom, endFrom, withBody, withRow, withRule, withRules, TableRoom}
 use Rattle.decode.proofs.words.Laws.{word-other, words-long, words-other, five-words}
 use Rattle.decode.proofs.pairs.Laws.{pairs-long, pairs-below}

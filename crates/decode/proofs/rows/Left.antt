@@ -5,7 +5,6 @@ use mathlib.Core.List.{List, [], _∷_}
 use native.Mathlib.Omega.{arith}
 use lib.ListN.{length}
 use Rattle.rules.specs.Rule.{Rule}
-use Rattle.table.specs.inner.Words.{rowWidth, pairWidth}
 use Rattle.numbers.proofs.Answer.{one-left}
 use Rattle.sheet.specs.Rule.{ruleAt}
 use Rattle.sheet.specs.Meaning.{ruleMeant, rulesFrom}
@@ -14,6 +13,7 @@ use Rattle.sheet.specs.declared.SheetRule.{SheetRule}
 use Rattle.sheet.specs.declared.RuleRead.{RuleRead}
 use Rattle.sheet.specs.declared.RuleRead.the-variants.{Got}
 use Rattle.sheet.proofs.sheet.Rules.{rules-more}
+use Rattle.table.specs.inner.Words.{rowWidth, pairWidth}
 use Rattle.decode.specs.inner.Rows.{withRules, TableRoom, Meant, RuleAsks, RulePut, RowsLeft}
 use Rattle.decode.proofs.rows.Laws.{rule-long, room-next}
 

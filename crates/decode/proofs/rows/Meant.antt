@@ -1,33 +1,33 @@
 -- What a rule that was read has within limits: its head and its need are numbers of a sheet, since its lists rise within n; and a weight
 -- rule has a weight for each literal. The compute lists have the same, as the body of a choice with no heads.
-use borrow.Author.Tests.{eqb-true}
-use Rattle.rules.specs.Sum.{pick}
-use lib.Dec.{eqb}
-use mathlib.Core.Bool.{Bool, true, false}
-use Rattle.rules.specs.Rule.{ones}
-use Rattle.sheet.specs.declared.Literals.{Literals}
-use Rattle.sheet.specs.shown.Encode.{WellFormed}
-use Rattle.sheet.specs.Sheet.{sheetRead}
 use Prim.Native.Nat.{ℕ, _≤_, _+_}
+use mathlib.Core.Bool.{Bool, true, false}
 use mathlib.Core.Path.{_≡_, sym, _∙_, ap, subst, ap₂, refl}
 use mathlib.Core.List.{List, []}
 use native.Mathlib.Omega.{arith}
+use lib.Dec.{eqb}
+use borrow.Author.Tests.{eqb-true}
+use Rattle.rules.specs.Sum.{pick}
+use Rattle.rules.specs.Rule.{ones}
 use Rattle.rules.specs.Limits.{atomsMost, numberMost}
 use Rattle.numbers.specs.Lists.{numbersFrom, numbersOf}
 use Rattle.numbers.specs.shown.Encode.{none, more, Rising}
+use Rattle.numbers.proofs.lists.Numbers.{numbers-count}
+use Rattle.sheet.specs.shown.Encode.{WellFormed}
+use Rattle.sheet.specs.Sheet.{sheetRead}
 use Rattle.sheet.specs.Body.{weightsDue}
 use Rattle.sheet.specs.Rule.{ruleAt}
 use Rattle.sheet.specs.Meaning.{ruleMeant, sheetMeant, ruleBy, paired, pairedIn}
+use Rattle.sheet.specs.declared.Literals.{Literals}
 use Rattle.sheet.specs.declared.SheetKind.{SheetKind}
 use Rattle.sheet.specs.declared.SheetKind.the-variants.{Basic, Constraint, Choice, Weight}
 use Rattle.sheet.specs.declared.SheetRule.{SheetRule}
 use Rattle.sheet.specs.declared.RuleRead.the-variants.{Got as GotRule}
+use Rattle.sheet.specs.declared.Outline.{Outline}
+use Rattle.sheet.specs.declared.SheetRead.the-variants.{Accepted}
 use Rattle.sheet.proofs.rule.Means.{rule-ran}
 use Rattle.sheet.proofs.sheet.Ran.{sheet-ran}
 use Rattle.sheet.proofs.Sound.{Sound, proper-sound, choice-sound, two-lists}
-use Rattle.sheet.specs.declared.Outline.{Outline}
-use Rattle.sheet.specs.declared.SheetRead.the-variants.{Accepted}
-use Rattle.numbers.proofs.lists.Numbers.{numbers-count}
 use Rattle.decode.specs.inner.Rows.{headNumber, Weights, Meant, headsRead, listsRead, listsRule, ListsAsk, literalsRead}
 use Rattle.decode.proofs.rows.Rule.{parts, literals-plain}
 

@@ -1,15 +1,14 @@
 -- A rule that was read is written list by list, and then its row: its lists are those of the rule that is meant, so the words are those
 -- of that rule, and each list finds the room that the whole rule has.
-use borrow.Author.Tests.{eq-eqb, ne-eqb}
-use Rattle.rules.specs.Sum.{pick}
 use Prim.Native.Nat.{ℕ, _*_, _≤_}
 use mathlib.Core.Path.{_≡_, refl, sym, _∙_, ap}
 use mathlib.Core.List.{List, [], _∷_}
 use native.Mathlib.Omega.{arith}
 use lib.ListN.{length, length-map}
+use borrow.Author.Tests.{eq-eqb, ne-eqb}
+use Rattle.rules.specs.Sum.{pick}
 use Rattle.rules.specs.Limits.{numberMost}
 use Rattle.rules.specs.Rule.{one, ones, weighted, Kind, kindNumber, basic, constraint, choice, weight}
-use Rattle.table.specs.inner.Words.{rowWidth, pairWidth}
 use Rattle.numbers.specs.Lists.{numbersFrom, numbersOf}
 use Rattle.sheet.specs.Meaning.{paired, ruleBy, ruleMeant}
 use Rattle.sheet.specs.shown.Encode.{rulesSize}
@@ -17,6 +16,7 @@ use Rattle.sheet.specs.declared.SheetKind.{SheetKind}
 use Rattle.sheet.specs.declared.SheetKind.the-variants.{Basic, Constraint, Choice, Weight}
 use Rattle.sheet.specs.declared.Literals.{Literals}
 use Rattle.sheet.specs.declared.SheetRule.{SheetRule}
+use Rattle.table.specs.inner.Words.{rowWidth, pairWidth}
 use Rattle.decode.specs.inner.Pairs.{PairFits, PairsFit, PairsCopied}
 use Rattle.decode.specs.inner.Rows.{kindRead, headsRead, positivesFrom, negativesFrom, endFrom, withBody, withRow, withRule, literalsRead, headNumber, HeadsAsk, Weights, RowAsks, RuleAsks, RulePut}
 use Rattle.decode.proofs.pairs.Copy.{asks-as, copied-as, copied-long}

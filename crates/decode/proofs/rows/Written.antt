@@ -9,9 +9,9 @@ use native.Mathlib.Nat.{add-zero, eq-or-lt-of-le}
 use native.Mathlib.Numerals.{add-one}
 use lib.ListN.{length, getD, length-map}
 use Rattle.rules.specs.Rule.{Rule, Kind, basic, constraint, choice, weight, kindNumber, ones, atomsOf}
+use Rattle.sheet.specs.shown.Encode.{rulesSize}
 use Rattle.table.specs.inner.Words.{rowWidth, pairWidth, wordAt, seg, segAtoms}
 use Rattle.table.specs.inner.Rows.{kindOf, kindAt, needAt, headsAt, positivesAt, negativesAt, endAt, rowRule, rowRules}
-use Rattle.sheet.specs.shown.Encode.{rulesSize}
 use Rattle.decode.specs.inner.Pairs.{withPairs}
 use Rattle.decode.specs.inner.Rows.{positivesFrom, negativesFrom, endFrom, withBody, withRow, withRule, withRules, TableRoom}
 use Rattle.decode.proofs.words.Laws.{word-same, words-other, words-at}

@@ -8,12 +8,12 @@ use lib.ListN.{length}
 use Rattle.rules.specs.Rule.{Rule, Sheet}
 use Rattle.numbers.specs.declared.Read.{Read}
 use Rattle.numbers.specs.declared.Read.the-variants.{Got, Refused}
-use Rattle.table.specs.inner.Words.{pairWidth}
-use Rattle.table.specs.inner.Rows.{tableSheet, Laid}
 use Rattle.sheet.specs.Sheet.{sheetRead}
 use Rattle.sheet.specs.Meaning.{sheetMeant}
 use Rattle.sheet.specs.declared.Outline.{Outline}
 use Rattle.sheet.specs.declared.SheetRead.the-variants.{Accepted}
+use Rattle.table.specs.inner.Words.{pairWidth}
+use Rattle.table.specs.inner.Rows.{tableSheet, Laid}
 use Rattle.decode.specs.inner.Rows.{firstPair, listsRule, RowsLeft}
 
 -- how many words the table of a sheet of so many bytes needs

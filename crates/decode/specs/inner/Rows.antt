@@ -1,14 +1,13 @@
 -- "A rule is one of four kinds, each with its own head part." "Each rule has a need and each body literal a weight." The words of a
 -- table after rules were written, from a row and from a pair on.
-use lib.Dec.{eqb}
-use Rattle.rules.specs.Sum.{pick}
 use Prim.Native.Nat.{ℕ, _+_, _*_, _≤_}
 use mathlib.Core.Path.{_≡_}
 use mathlib.Core.List.{List, [], _∷_}
+use lib.Dec.{eqb}
 use lib.ListN.{length, set}
+use Rattle.rules.specs.Sum.{pick}
 use Rattle.rules.specs.Limits.{numberMost}
 use Rattle.rules.specs.Rule.{Rule, Sheet, Weighted, Kind, basic, constraint, choice, weight, kindNumber, choiceRule, ones}
-use Rattle.table.specs.inner.Words.{rowWidth, pairWidth}
 use Rattle.numbers.specs.Answer.{span}
 use Rattle.numbers.specs.Lists.{numbersOf}
 use Rattle.sheet.specs.Meaning.{pairedIn, ruleMeant}
@@ -18,6 +17,7 @@ use Rattle.sheet.specs.declared.SheetKind.the-variants.{Basic, Constraint, Choi
 use Rattle.sheet.specs.declared.Literals.{Literals}
 use Rattle.sheet.specs.declared.SheetRule.{SheetRule}
 use Rattle.sheet.specs.declared.Outline.{Outline}
+use Rattle.table.specs.inner.Words.{rowWidth, pairWidth}
 use Rattle.decode.specs.inner.Words.{withWords}
 use Rattle.decode.specs.inner.Pairs.{withPairs, PairsFit}
 

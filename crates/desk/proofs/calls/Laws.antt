@@ -1,8 +1,4 @@
 -- Each call, put together: a gate that stops it is its refusal, and else its task, handed over, is its answer.
-use Rattle.gate.specs.inner.Fit.{GateFits}
-use Rattle.gate.proofs.scan.Maps.{contradiction-bytes}
-use Rattle.desk.proofs.hand.Laws.{threes-stay}
-use Rattle.search.specs.inner.Search.{FirstIn}
 use Prim.Native.Nat.{ℕ, _≤_}
 use mathlib.Core.Path.{_≡_, refl, sym, _∙_, ap, subst}
 use mathlib.Core.Bool.{Bool, true, false}
@@ -19,31 +15,32 @@ use Rattle.rules.specs.Map.{Map, Holding, Over, side, is, Whole, blank}
 use Rattle.rules.specs.Forcing.{Closed, Least, computed}
 use Rattle.rules.specs.inner.Bytes.{Room}
 use Rattle.rules.specs.inner.Fits.{Numbered}
+use Rattle.rules.proofs.Testing.{closed-model, clash-no-model}
 use Rattle.numbers.specs.declared.Refusal.{Refusal}
-use Rattle.sheet.specs.Sheet.{sheetRead}
+use Rattle.sheet.specs.Sheet.{sheetRead, sheetThen}
 use Rattle.sheet.specs.Meaning.{sheetMeant}
 use Rattle.sheet.specs.declared.Outline.{Outline}
 use Rattle.sheet.specs.declared.SheetRead.the-variants.{Accepted, Refused as RefusedRead}
+use Rattle.sheet.specs.declared.SheetRead.{SheetRead}
 use Rattle.sheet.proofs.sheet.Ran.{sheet-ran}
+use Rattle.sheet.proofs.Accepted.{numbered}
+use Rattle.sheet.proofs.sheet.Written.{meant}
+use Rattle.gate.specs.inner.Fit.{GateFits}
 use Rattle.gate.specs.Scan.{isContradiction}
 use Rattle.gate.specs.Gate.{sheetGate, openGate, solveGate, testGate, pinGate, marginGate, partGate}
 use Rattle.gate.specs.declared.Task.{Task}
 use Rattle.gate.specs.declared.Task.the-variants.{Stay, Open, Pin, Solve, Test, Rule}
 use Rattle.gate.specs.declared.Gate.{Gate}
 use Rattle.gate.specs.declared.Gate.the-variants.{Stop, Go}
-use Rattle.gate.proofs.Calls.{Lent, Through, open-goes, solve-goes, pin-through}
+use Rattle.gate.specs.declared.Ask.the-variants.{Margin, Part}
+use Rattle.gate.proofs.scan.Maps.{contradiction-bytes}
+use Rattle.gate.proofs.Calls.{Lent, Through, open-goes, solve-goes, pin-through, test-goes, margin-through, part-through}
+use Rattle.search.specs.inner.Search.{FirstIn}
 use Rattle.task.specs.inner.Perform.{ClosedFor, Comes, Performs, itemFrom}
 use Rattle.task.specs.declared.Answer.{Answer}
 use Rattle.task.proofs.bytes.Laws.{copied-side, copied-undecided}
 use Rattle.desk.specs.Promise.{Upon, Checks, Parts, Ends, Opens, PinEnds, Pins, SolveEnds, Solves, Tests, Margins, PinAsks, partIs}
 use Rattle.desk.specs.inner.Serve.{ServedBy, Serves, HandedMap, HandsMap, HandedModel, HandsModel}
-use Rattle.rules.proofs.Testing.{closed-model, clash-no-model}
-use Rattle.gate.specs.declared.Ask.the-variants.{Margin, Part}
-use Rattle.gate.proofs.Calls.{test-goes, margin-through, part-through}
-use Rattle.sheet.specs.Sheet.{sheetThen}
-use Rattle.sheet.specs.declared.SheetRead.{SheetRead}
-use Rattle.sheet.proofs.Accepted.{numbered}
-use Rattle.sheet.proofs.sheet.Written.{meant}
 use Rattle.desk.specs.declared.Checked.the-variants.{Accepted as AcceptedSheet, Refused as RefusedSheet}
 use Rattle.desk.specs.declared.Opened.{Opened}
 use Rattle.desk.specs.declared.Opened.the-variants.{Contradiction as Contradicted, Refused as RefusedMap}
@@ -54,6 +51,7 @@ use Rattle.desk.specs.declared.PartRead.the-variants.{Value, Nothing, Re
 use Rattle.desk.specs.declared.MarginRead.the-variants.{Is as MarginIs, Refused as RefusedMargin}
 use Rattle.desk.specs.declared.run.Served.{Served}
 use Rattle.desk.specs.declared.run.Served.the-variants.{Done, Refused}
+use Rattle.desk.proofs.hand.Laws.{threes-stay}
 
 -- a gate that is known
 pub upon-stop :

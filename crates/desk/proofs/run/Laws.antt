@@ -16,12 +16,12 @@ use Rattle.sheet.specs.declared.SheetRead.the-variants.{Accepted}
 use Rattle.sheet.proofs.sheet.Ran.{sheet-ran}
 use Rattle.table.specs.inner.Words.{pairWidth}
 use Rattle.table.specs.inner.Rows.{tableSheet}
-use Rattle.weigh.proofs.Bytes.{blank-room}
-use Rattle.decode.specs.inner.Decode.{tableWords, Decodable, Decoded, DecodedBy, Decodes}
+use Rattle.gate.specs.inner.Fit.{Fit, GateFits}
 use Rattle.gate.specs.declared.Task.{Task}
 use Rattle.gate.specs.declared.Gate.{Gate}
 use Rattle.gate.specs.declared.Gate.the-variants.{Stop, Go}
-use Rattle.gate.specs.inner.Fit.{Fit, GateFits}
+use Rattle.decode.specs.inner.Decode.{tableWords, Decodable, Decoded, DecodedBy, Decodes}
+use Rattle.weigh.proofs.Bytes.{blank-room}
 use Rattle.task.specs.inner.Perform.{Performs}
 use Rattle.task.specs.declared.Answer.{Answer}
 use Rattle.desk.specs.inner.Serve.{Serves}

@@ -11,8 +11,8 @@ use lib.Dec.{eqb}
 use Rattle.rules.specs.Map.{Literal, side, want, signed, undecided}
 use Rattle.rules.specs.Forcing.{computed}
 use Rattle.numbers.specs.shown.Encode.{IsBytes}
-use Rattle.numbers.specs.declared.Refusal.{Refusal}
 use Rattle.numbers.specs.Answer.{refusal}
+use Rattle.numbers.specs.declared.Refusal.{Refusal}
 use Rattle.sheet.specs.Meaning.{sheetMeant}
 use Rattle.sheet.specs.declared.Outline.{Outline}
 use Rattle.gate.specs.Gate.{openGate, pinGate}

@@ -12,12 +12,12 @@ use Rattle.rules.specs.Rule.{Rule, Within}
 use Rattle.rules.specs.Stable.{value}
 use Rattle.rules.specs.Map.{Map, side, is, isnt}
 use Rattle.rules.specs.Forcing.{Closed, Grounds, Founded}
+use Rattle.rules.specs.inner.Bytes.{MapBytes}
 use Rattle.table.specs.inner.Words.{pairAtom}
 use Rattle.table.specs.inner.Rows.{headsAt, rowRule, tableRules, Row}
+use Rattle.weigh.specs.inner.Step.{Forces, Concludes, Kept, Step, Till, Puts}
 use Rattle.weigh.specs.declared.Outcome.{Outcome}
 use Rattle.weigh.specs.declared.Outcome.the-variants.{Same}
-use Rattle.weigh.specs.inner.Step.{Forces, Concludes, Kept, Step, Till, Puts}
-use Rattle.rules.specs.inner.Bytes.{MapBytes}
 
 -- an atom is put on a side in one map, unless it has a given side in another
 pub record PutsUnless (n : ℕ) (m : List ℕ) (a given v : ℕ) (w w′ : List ℕ) (r : Outcome) : Type 0 where

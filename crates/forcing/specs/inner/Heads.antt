@@ -10,11 +10,11 @@ use Rattle.rules.specs.Sum.{has}
 use Rattle.rules.specs.Rule.{Rule, Weighted, body, chooses}
 use Rattle.rules.specs.Map.{Map, side, sure}
 use Rattle.rules.specs.Forcing.{Closed}
+use Rattle.rules.specs.inner.Bytes.{MapBytes}
 use Rattle.table.specs.inner.Words.{pairAtom}
 use Rattle.table.specs.inner.Rows.{headsAt, kindAt, rowRule, tableRules, Row}
-use Rattle.weigh.specs.declared.Outcome.{Outcome}
 use Rattle.weigh.specs.inner.Step.{Kept, Step, Till}
-use Rattle.rules.specs.inner.Bytes.{MapBytes}
+use Rattle.weigh.specs.declared.Outcome.{Outcome}
 
 -- the two forcing rules have nothing to add for this rule
 pub record Settled (r : Rule) (M : Map) : Type 0 where

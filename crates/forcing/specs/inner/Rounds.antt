@@ -9,11 +9,11 @@ use Rattle.rules.specs.Rule.{Within}
 use Rattle.rules.specs.Map.{Map, side, _⊑_, undecided}
 use Rattle.rules.specs.Forcing.{Closed, Founded, Least, Contradiction}
 use Rattle.table.specs.inner.Rows.{rowRule, tableRules}
+use Rattle.weigh.specs.inner.Step.{Forces, Kept, Step, Till}
 use Rattle.weigh.specs.declared.Outcome.{Outcome}
+use Rattle.forcing.specs.inner.Support.{Backed}
 use Rattle.forcing.specs.declared.Closing.{Closing}
 use Rattle.forcing.specs.declared.Closing.the-variants.{NoneHolds, ClosedWith}
-use Rattle.weigh.specs.inner.Step.{Forces, Kept, Step, Till}
-use Rattle.forcing.specs.inner.Support.{Backed}
 
 -- the zero bytes before index i are counted
 pub record Summed (n : ℕ) (m : List ℕ) (sum i : ℕ) : Type 0 where

@@ -12,11 +12,11 @@ use Rattle.rules.specs.Sum.{counted, has}
 use Rattle.rules.specs.Rule.{Rule, Weighted, Within, body}
 use Rattle.rules.specs.Map.{Map, side, is, reach, _⊑_}
 use Rattle.rules.specs.Forcing.{Closed, supports, supporters}
+use Rattle.rules.specs.inner.Bytes.{MapBytes}
 use Rattle.table.specs.inner.Words.{segAtoms}
 use Rattle.table.specs.inner.Rows.{headsAt, positivesAt, rowRule, rowRules, tableRules, Row}
-use Rattle.weigh.specs.declared.Outcome.{Outcome}
 use Rattle.weigh.specs.inner.Step.{Kept, Step, Till}
-use Rattle.rules.specs.inner.Bytes.{MapBytes}
+use Rattle.weigh.specs.declared.Outcome.{Outcome}
 
 -- for each atom that is in, how many rules can still give it, and for any other 0; an atom's count stands where its byte stands in
 -- a map

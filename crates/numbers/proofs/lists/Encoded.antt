@@ -9,11 +9,11 @@ use lib.Dec.{leb}
 use borrow.Author.Tests.{leb-false, lt-leb}
 use Rattle.rules.specs.Limits.{numberMost}
 use Rattle.rules.specs.Rule.{Within}
-use Rattle.rules.proofs.Inside.{atom-is, atom-made}
 use Rattle.rules.specs.Number.{checkedAtom}
-use Rattle.rules.specs.declared.Atom.{Atom}
-use Rattle.numbers.specs.Answer.{readThen, atomThen, span}
 use Rattle.rules.specs.Sum.{pick}
+use Rattle.rules.specs.declared.Atom.{Atom}
+use Rattle.rules.proofs.Inside.{atom-is, atom-made}
+use Rattle.numbers.specs.Answer.{readThen, atomThen, span}
 use Rattle.numbers.specs.Number.{numberAt}
 use Rattle.numbers.specs.Lists.{atomAt, inTurn, upTo, numbersFrom}
 use Rattle.numbers.specs.shown.Encode.{numberBytes, numbersBytes, IsBytes, Linked, none, more, Rises}

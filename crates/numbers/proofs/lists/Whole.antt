@@ -1,6 +1,5 @@
 -- A list that was read is strictly increasing, within 1 to n and as long as its count says, and has just the bytes that are written for
 -- it; and what is written for such a list is read as that list. Both put the count before the run of the atoms.
-use Rattle.numbers.proofs.lists.Numbers.{numbers-count}
 use Prim.Native.Nat.{ℕ, _+_, _≤_}
 use mathlib.Core.Path.{_≡_, sym, ap, ap₂, subst, _∙_}
 use mathlib.Core.List.{List, _++_, append-assoc}
@@ -8,14 +7,15 @@ use native.Mathlib.Omega.{arith}
 use lib.ListN.{length, drop, length-append}
 use borrow.Author.Tests.{le-ltb}
 use Rattle.rules.specs.Limits.{numberMost}
-use Rattle.numbers.specs.Answer.{readThen, span}
 use Rattle.rules.specs.Sum.{pick}
+use Rattle.numbers.specs.Answer.{readThen, span}
 use Rattle.numbers.specs.Number.{numberAt, withinAt}
 use Rattle.numbers.specs.Lists.{atomAt, inTurn, listAt, numbersFrom, numbersOf}
 use Rattle.numbers.specs.shown.Encode.{numberBytes, numbersBytes, listBytes, IsBytes, Linked, none, more, Rises, Rising}
 use Rattle.numbers.specs.declared.Span.{Span}
 use Rattle.numbers.specs.declared.Read.{Read}
 use Rattle.numbers.specs.declared.Read.the-variants.{Got, Refused}
+use Rattle.numbers.proofs.lists.Numbers.{numbers-count}
 use Rattle.numbers.proofs.Stands.{Stands, joined, stands-as}
 use Rattle.numbers.proofs.number.Most.{number-far}
 use Rattle.numbers.proofs.number.Encoded.{number-bytes, number-read, past}

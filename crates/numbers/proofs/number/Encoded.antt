@@ -12,8 +12,8 @@ use lib.Seq.{drop-cons, drop-drop, getD-drop, drop-append-seam}
 use lib.Dec.{ltb, eqb}
 use borrow.Author.Tests.{lt-ltb, le-ltb, ltb-true, ltb-false, eqb-false, ne-eqb}
 use Rattle.rules.specs.Limits.{numberMost}
-use Rattle.numbers.specs.Answer.{readThen, span}
 use Rattle.rules.specs.Sum.{pick}
+use Rattle.numbers.specs.Answer.{readThen, span}
 use Rattle.numbers.specs.Number.{groupsFrom, numberAt}
 use Rattle.numbers.specs.shown.Encode.{groupsOf, numberBytes, IsBytes}
 use Rattle.numbers.specs.declared.Span.{Span}

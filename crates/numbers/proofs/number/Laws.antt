@@ -1,5 +1,4 @@
 -- The groups of a number, read low group first into a sum: what is left of the number counts by the scale that has been reached.
-use Rattle.numbers.specs.declared.Span.{Span}
 use Prim.Native.Nat.{ℕ, suc, _+_, _-_, _*_, _^_, _%_, _≤_, _<_}
 use mathlib.Core.Path.{_≡_, refl, ap, _∙_, sym}
 use mathlib.Core.Bool.{true, false, _&&_}
@@ -7,12 +6,13 @@ use mathlib.Core.List.{List}
 use native.Mathlib.Omega.{arith}
 use native.Mathlib.Nat.{mul-assoc, mul-comm, add-mul, mul-le-mul-left, mul-le-mul-right, pow-le-pow-right, le-trans, pow-suc}
 use native.Mathlib.Numerals.{add-one}
-use borrow.Author.Tests.{lt-ltb, le-ltb}
 use lib.ListN.{length, getD}
 use lib.Dec.{ltb, eqb, lit<}
-use Rattle.numbers.specs.Answer.{readThen, span, refusal}
+use borrow.Author.Tests.{lt-ltb, le-ltb}
 use Rattle.rules.specs.Sum.{pick}
+use Rattle.numbers.specs.Answer.{readThen, span, refusal}
 use Rattle.numbers.specs.Number.{groupsFrom, higher, takenFrom}
+use Rattle.numbers.specs.declared.Span.{Span}
 use Rattle.numbers.specs.declared.Read.{Read}
 use Rattle.numbers.specs.declared.Read.the-variants.{Got, Refused}
 use Rattle.numbers.proofs.Answer.{one-left}

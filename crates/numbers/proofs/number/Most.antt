@@ -9,8 +9,8 @@ use lib.ListN.{length, getD}
 use lib.Dec.{ltb, eqb, lit<}
 use borrow.Author.Tests.{ltb-true, ltb-false}
 use Rattle.rules.specs.Limits.{numberMost}
-use Rattle.numbers.specs.Answer.{readThen, span, refusal}
 use Rattle.rules.specs.Sum.{pick}
+use Rattle.numbers.specs.Answer.{readThen, span, refusal}
 use Rattle.numbers.specs.Number.{groupsFrom, numberAt, withinAt}
 use Rattle.numbers.specs.declared.Span.{Span}
 use Rattle.numbers.specs.declared.Read.the-variants.{Got, Refused}

@@ -1,7 +1,7 @@
 -- The worked cases that are proved of the definitions: a sheet's rules and compute lists, pins, the map after open and pins (or
 -- nothing, for a contradiction), and the first model as a map of 1s and 2s (or nothing, for none).
-use mathlib.Core.Bool.{false, true}
 use Prim.Native.Nat.{ℕ}
+use mathlib.Core.Bool.{false, true}
 use mathlib.Core.List.{List, [], _∷_}
 use Rattle.rules.specs.Rule.{Rule, Sheet, weighted, basicRule, constraintRule, choiceRule, weightRule}
 use Rattle.rules.specs.Stable.{First, NoModel}

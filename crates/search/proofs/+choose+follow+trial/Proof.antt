@@ -3,10 +3,11 @@
 use Prim.Native.Nat.{ℕ, _+_, _*_, _<_}
 use native.Mathlib.Omega.{arith}
 use borrow.Author.Needs.{needs}
-use Rattle.rules.specs.Map.{undecided}
-use Rattle.search.proofs.Branches.{decided-all, next-stands, followed, clashed, closed-guess, no-guess, answered-in, answered-out}
 use borrow.Fn.Kinds.{In}
 use borrow.Fn.PlainCycle.{Measures, is, falls, and}
+use Rattle.rules.specs.Map.{undecided}
+use Rattle.forcing.proofs.lowest.Reads as lowest-reads
+use Rattle.search.proofs.Branches.{decided-all, next-stands, followed, clashed, closed-guess, no-guess, answered-in, answered-out}
 use Rattle.search.proofs.choose.Reads as choose
 use Rattle.search.proofs.choose.Kinds as choose-kinds
 use Rattle.search.proofs.+choose+follow+trial.Lts-choose as choose-lts
@@ -17,7 +18,6 @@ use Rattle.search.proofs.trial.Reads as trial
 use Rattle.search.proofs.trial.Kinds as trial-kinds
 use Rattle.search.proofs.+choose+follow+trial.Lts-trial as trial-lts
 use Rattle.search.proofs.guess.Reads as guess-reads
-use Rattle.forcing.proofs.lowest.Reads as lowest-reads
 use Rattle.search.proofs.+choose+follow+trial.{statement}
 use Rattle.search.proofs.+choose+follow+trial.Tie.{close}
 

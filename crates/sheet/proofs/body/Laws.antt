@@ -4,9 +4,9 @@ use Prim.Native.Nat.{ℕ, zero, suc}
 use mathlib.Core.Path.{_≡_, refl, ap, _∙_}
 use mathlib.Core.List.{List}
 use Rattle.numbers.specs.Lists.{inTurn}
-use Rattle.sheet.specs.Body.{weightAt, weightsAt, weighedAt, bodyAt}
 use Rattle.numbers.specs.declared.Span.{Span}
 use Rattle.numbers.specs.declared.Read.{Read}
+use Rattle.sheet.specs.Body.{weightAt, weightsAt, weighedAt, bodyAt}
 use Rattle.sheet.specs.declared.SheetKind.{SheetKind}
 use Rattle.sheet.specs.declared.RuleRead.{RuleRead}
 

@@ -1,6 +1,5 @@
 -- What a body that was read has read: two lists, and the weights that its kind calls for. Each part is what the laws of lists and runs
 -- say of it.
-use Rattle.numbers.proofs.lists.Numbers.{numbers-count}
 use Prim.Native.Nat.{ℕ, _+_, _≤_}
 use mathlib.Core.Path.{_≡_, refl, sym, ap, ap₂, subst, _∙_}
 use mathlib.Core.List.{List, _++_, flatMap, append-nil}
@@ -14,6 +13,7 @@ use Rattle.numbers.specs.shown.Encode.{numbersBytes, listBytes, IsBytes}
 use Rattle.numbers.specs.declared.Refusal.{Refusal}
 use Rattle.numbers.specs.declared.Span.{Span}
 use Rattle.numbers.specs.declared.Read.the-variants.{Got}
+use Rattle.numbers.proofs.lists.Numbers.{numbers-count}
 use Rattle.numbers.proofs.Answer.{from-read}
 use Rattle.numbers.proofs.Stands.{Stands, joined, stands-as, stands-to}
 use Rattle.numbers.proofs.number.Most.{limited}

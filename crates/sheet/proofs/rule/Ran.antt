@@ -8,9 +8,10 @@ use lib.Dec.{eqb}
 use borrow.Author.Tests.{eqb-true}
 use Rattle.rules.specs.Rule.{Within, Kind, basic, constraint, choice, weight, kindNumber}
 use Rattle.rules.specs.Number.{checkedAtom}
-use Rattle.rules.specs.declared.Atom.{Atom}
-use Rattle.numbers.specs.Answer.{refusal}
 use Rattle.rules.specs.Sum.{pick}
+use Rattle.rules.specs.declared.Atom.{Atom}
+use Rattle.rules.proofs.Inside.{atom-is}
+use Rattle.numbers.specs.Answer.{refusal}
 use Rattle.numbers.specs.Number.{numberAt}
 use Rattle.numbers.specs.shown.Encode.{numberBytes, numbersBytes, IsBytes}
 use Rattle.numbers.specs.declared.Span.{Span}
@@ -19,7 +20,6 @@ use Rattle.numbers.proofs.Answer.{from-read, from-atom}
 use Rattle.numbers.proofs.Stands.{Stands, stands-as}
 use Rattle.numbers.proofs.number.Most.{number-far}
 use Rattle.numbers.proofs.number.Encoded.{number-bytes}
-use Rattle.rules.proofs.Inside.{atom-is}
 use Rattle.sheet.specs.Rule.{headThen, basicAt, boundedAt, choiceAt, ruleAt}
 use Rattle.sheet.specs.declared.SheetRule.{SheetRule}
 use Rattle.sheet.specs.declared.RuleRead.{RuleRead}

@@ -7,15 +7,15 @@ use native.Mathlib.Omega.{arith}
 use lib.ListN.{length, drop}
 use Rattle.rules.specs.Limits.{numberMost}
 use Rattle.rules.specs.Rule.{Rule, Weighted, Within, ones, basicRule, constraintRule, choiceRule, weightRule, atomsOf, weightsOf}
-use Rattle.rules.specs.declared.Atom.{Atom}
-use Rattle.numbers.specs.Answer.{readThen, atomThen, span}
 use Rattle.rules.specs.Sum.{pick}
+use Rattle.rules.specs.declared.Atom.{Atom}
+use Rattle.rules.proofs.Inside.{atom-made}
+use Rattle.numbers.specs.Answer.{readThen, atomThen, span}
 use Rattle.numbers.specs.Number.{numberAt}
 use Rattle.numbers.specs.Lists.{numbersOf}
 use Rattle.numbers.specs.shown.Encode.{numberBytes, numbersBytes, listBytes, none, Rising}
 use Rattle.numbers.specs.declared.Read.the-variants.{Got}
 use Rattle.numbers.proofs.number.Encoded.{number-read, past}
-use Rattle.rules.proofs.Inside.{atom-made}
 use Rattle.numbers.proofs.lists.Whole.{listSpan, list-read, list-numbers, list-past}
 use Rattle.sheet.specs.Body.{bodyAt}
 use Rattle.sheet.specs.Rule.{headThen, bounded, basicAt, boundedAt, choiceAt, ruleAt}

@@ -8,8 +8,8 @@ use lib.ListN.{length, drop, length-drop}
 use borrow.Author.Tests.{le-ltb}
 use Rattle.rules.specs.Limits.{numberMost, atomsMost, rulesMost, bytesMost}
 use Rattle.rules.specs.Rule.{Rule, Sheet}
-use Rattle.numbers.specs.Answer.{readThen, span}
 use Rattle.rules.specs.Sum.{pick}
+use Rattle.numbers.specs.Answer.{readThen, span}
 use Rattle.numbers.specs.Lists.{inTurn, upTo, numbersOf}
 use Rattle.numbers.specs.shown.Encode.{numberBytes, listBytes, Rising}
 use Rattle.numbers.specs.declared.Span.{Span}

@@ -2,10 +2,10 @@
 use Prim.Native.Nat.{ℕ}
 use mathlib.Core.Path.{_≡_, subst}
 use mathlib.Core.List.{List}
+use borrow.Author.Needs.{needs}
 use Rattle.solve.specs.Input.{InBuffer}
 use Rattle.solve.specs.declared.Input.{Input}
 use Rattle.solve.specs.declared.Input.the-variants.{Bytes}
-use borrow.Author.Needs.{needs}
 use Rattle.solve.proofs.main.Statement.{statement}
 use Rattle.solve.proofs.main.Tie as tie
 

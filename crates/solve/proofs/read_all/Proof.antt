@@ -2,10 +2,10 @@
 use Prim.Native.Nat.{ℕ, _≤_, _-_}
 use mathlib.Core.Path.{_≡_, sym}
 use mathlib.Core.List.{List}
-use borrow.Author.Needs.{needs}
 use native.Mathlib.Omega.{arith}
 use lib.ListN.{length}
 use lib.Seq.{length-take-le}
+use borrow.Author.Needs.{needs}
 use Rattle.solve.specs.Input.{InBuffer}
 use Rattle.solve.specs.declared.Input.the-variants.{Bytes}
 use Rattle.solve.proofs.read_all.Statement.{statement}

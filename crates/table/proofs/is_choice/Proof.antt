@@ -1,8 +1,8 @@
 -- `table::is_choice`: A kind is that of a choice exactly where its word is the number of choice.
-use borrow.Author.Needs.{needs}
 use Prim.Native.Nat.{ℕ}
 use mathlib.Core.Path.{sym, _∙_, ap}
 use lib.Dec.{eqb}
+use borrow.Author.Needs.{needs}
 use Rattle.rules.specs.Rule.{choice, kindNumber}
 use Rattle.table.specs.inner.Words.{rowWidth}
 use Rattle.table.specs.inner.Rows.{kindAt}

@@ -1,7 +1,7 @@
 -- `table::word`: The word of an index below the length is the list's element there, and past the end the default is 0.
-use borrow.Author.Needs.{needs}
 use mathlib.Core.Path.{sym}
 use lib.ListN.{List·getD-eq-default}
+use borrow.Author.Needs.{needs}
 use denote.Ref.{now}
 use Rattle.table.specs.inner.Words.{wordAt}
 use Rattle.table.proofs.word.Statement.{statement}

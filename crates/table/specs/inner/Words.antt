@@ -1,7 +1,7 @@
 -- "A body is a list of positive atoms and then a list of negated atoms." In a table each list stands as a run of pairs of words,
 -- an atom and the weight of its literal; a list of heads stands so too. A table is one list of words, and a word past its end is 0.
-use mathlib.Core.Bool.{Bool, true, false}
 use Prim.Native.Nat.{ℕ, zero, suc, _+_, _*_, _-_, _≤_, _<_}
+use mathlib.Core.Bool.{Bool, true, false}
 use mathlib.Core.List.{List, [], _∷_}
 use lib.ListN.{getD}
 use Rattle.rules.specs.Limits.{atomsMost, weightMost}

@@ -1,33 +1,33 @@
 -- The tasks, put together: literals held and the map closed are the smallest closed map that holds both; the models above the opened
 -- map are all that agree; and the rows of a table are the rules of its sheet.
-use Rattle.gate.specs.inner.Fit.{AskFits}
-use Rattle.rules.specs.declared.Item.{Item}
-use Rattle.rules.specs.declared.Item.the-variants.{Is, Nothing}
-use Rattle.gate.specs.declared.Ask.the-variants.{Margin, Part}
-use Rattle.rules.specs.declared.Atom.{Atom}
-use Rattle.rules.specs.declared.RuleNo.{RuleNo}
-use Rattle.rules.specs.inner.Search.{ModelOver}
 use Prim.Native.Nat.{ℕ, zero, suc, _+_, _-_, _≤_, _<_}
 use mathlib.Core.Path.{_≡_, refl, sym, _∙_, ap, subst}
 use mathlib.Core.Bool.{Bool, true, false, true≢false, false≢true}
 use mathlib.Core.List.{List, [], _∷_}
 use native.Mathlib.Omega.{arith}
 use lib.ListN.{length, getD}
+use Rattle.rules.specs.inner.Search.{ModelOver}
 use Rattle.rules.specs.Limits.{atomsMost}
-use Rattle.gate.specs.declared.Ask.{Ask}
-use Rattle.gate.specs.declared.Task.{Task}
-use Rattle.gate.specs.declared.Task.the-variants.{Stay, Open, Pin, Solve, Test, Rule as RuleTask}
 use Rattle.rules.specs.Rule.{Rule, Sheet, Within, nthRule, noRule, partOf}
 use Rattle.rules.specs.Stable.{Model, First}
 use Rattle.rules.specs.Map.{Map, Literal, Holding, Over, Whole, side, is, _⊑_, signed, margin, blank}
 use Rattle.rules.specs.Forcing.{Closed, Least, computed}
 use Rattle.rules.specs.inner.Bytes.{Room, MapBytes}
 use Rattle.rules.specs.inner.Fits.{Numbered}
+use Rattle.rules.specs.declared.Item.{Item}
+use Rattle.rules.specs.declared.Item.the-variants.{Is, Nothing}
+use Rattle.rules.specs.declared.Atom.{Atom}
+use Rattle.rules.specs.declared.RuleNo.{RuleNo}
 use Rattle.rules.proofs.Maps.{want-decided}
 use Rattle.rules.proofs.Least.{least-same, contradiction-same}
 use Rattle.rules.proofs.First.{first-above, all-above, none-at-all}
 use Rattle.table.specs.inner.Rows.{rowRule, rowRules, tableSheet, Laid}
 use Rattle.table.proofs.Rows.{laid-numbered}
+use Rattle.gate.specs.inner.Fit.{AskFits}
+use Rattle.gate.specs.declared.Ask.the-variants.{Margin, Part}
+use Rattle.gate.specs.declared.Ask.{Ask}
+use Rattle.gate.specs.declared.Task.{Task}
+use Rattle.gate.specs.declared.Task.the-variants.{Stay, Open, Pin, Solve, Test, Rule as RuleTask}
 use Rattle.weigh.proofs.Steps.{kept-trans}
 use Rattle.weigh.proofs.Bytes.{blank-proper, blank-side}
 use Rattle.forcing.specs.inner.Rounds.{ClosedAs, ClosesMap}

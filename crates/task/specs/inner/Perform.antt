@@ -13,13 +13,13 @@ use Rattle.rules.specs.Forcing.{Closed, Least, Contradiction, computed}
 use Rattle.rules.specs.declared.Item.{Item}
 use Rattle.rules.specs.declared.Item.the-variants.{Is, Nothing}
 use Rattle.table.specs.inner.Rows.{Row}
-use Rattle.weigh.specs.inner.Step.{Kept}
-use Rattle.search.specs.inner.Search.{FirstIn}
 use Rattle.gate.specs.inner.Fit.{AskFits}
 use Rattle.gate.specs.declared.Ask.{Ask}
 use Rattle.gate.specs.declared.Ask.the-variants.{Margin, Part}
 use Rattle.gate.specs.declared.Task.{Task}
 use Rattle.gate.specs.declared.Task.the-variants.{Stay, Open, Pin, Solve, Test, Rule as RuleTask}
+use Rattle.weigh.specs.inner.Step.{Kept}
+use Rattle.search.specs.inner.Search.{FirstIn}
 use Rattle.task.specs.declared.Answer.{Answer}
 
 abbrev pub answer : ℕ → Bool → ℕ → Answer

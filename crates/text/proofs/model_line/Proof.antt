@@ -1,12 +1,12 @@
 -- `model_line` meets its contract: the buffer has room for the line, which is put at its start.
-use denote.Ref.{now}
 use Prim.Native.Nat.{ℕ}
 use mathlib.Core.Path.{ap}
 use native.Mathlib.Omega.{arith}
+use borrow.Author.Needs.{needs}
+use denote.Ref.{now}
 use Rattle.text.specs.Line.{modelLine}
 use Rattle.text.proofs.Room.{held, model-fits}
 use Rattle.text.proofs.put.Laws.{retold}
-use borrow.Author.Needs.{needs}
 use Rattle.text.proofs.model_line.Statement.{statement}
 use Rattle.text.proofs.model_line.Tie as tie
 

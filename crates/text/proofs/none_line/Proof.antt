@@ -1,6 +1,6 @@
 -- `none_line` meets its contract: the buffer has room for the line, which is put at its start.
-use Rattle.text.proofs.Room.{held, none-fits}
 use borrow.Author.Needs.{needs}
+use Rattle.text.proofs.Room.{held, none-fits}
 use Rattle.text.proofs.none_line.Statement.{statement}
 use Rattle.text.proofs.none_line.Tie as tie
 

@@ -8,8 +8,8 @@ use native.Mathlib.Omega.{arith}
 use native.Mathlib.Numerals.{add-one}
 use lib.ListN.{length, getD, take, set, length-set, length-append, List·getD-eq-default}
 use lib.Dec.{eqb}
-use borrow.Author.Tests.{eqb-true, eqb-false}
 use lib.Seq.{length-take-le, take-suc, take-suc-set}
+use borrow.Author.Tests.{eqb-true, eqb-false}
 use Rattle.text.specs.Line.{digit, digits, spaced, spacedAll, isIn, inAtom, inAtoms}
 use Rattle.text.specs.inner.Put.{BytesFit, AtomsFit, Appends}
 use Rattle.text.proofs.Lines.{less, digits-small, digits-large, spaced-join, atoms-fit}

@@ -1,9 +1,9 @@
 -- `put_model` meets its contract: the word, the atoms, and then the line feed.
+use borrow.Author.Needs.{needs}
 use denote.Ref.{now}
 use Rattle.text.specs.Line.{modelLine}
 use Rattle.text.proofs.Room.{feed-fits}
 use Rattle.text.proofs.put.Laws.{then}
-use borrow.Author.Needs.{needs}
 use Rattle.text.proofs.put_model.Statement.{statement}
 use Rattle.text.proofs.put_model.Tie as tie
 

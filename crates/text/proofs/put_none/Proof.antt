@@ -1,8 +1,8 @@
 -- `put_none` meets its contract: the word, and then the line feed.
 use mathlib.Core.Path.{_∙_}
+use borrow.Author.Needs.{needs}
 use Rattle.text.specs.Line.{noneWord, feed, noneLine}
 use Rattle.text.proofs.put.Laws.{then, room-first, room-after}
-use borrow.Author.Needs.{needs}
 use Rattle.text.proofs.put_none.Statement.{statement}
 use Rattle.text.proofs.put_none.Tie as tie
 

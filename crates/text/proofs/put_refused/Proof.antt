@@ -1,9 +1,9 @@
 -- `put_refused` meets its contract: the word, the two numbers, and then the line feed.
 use native.Mathlib.Omega.{arith}
+use borrow.Author.Needs.{needs}
 use Rattle.text.specs.Line.{refusedLine}
 use Rattle.text.proofs.Room.{refused-long}
 use Rattle.text.proofs.put.Laws.{then}
-use borrow.Author.Needs.{needs}
 use Rattle.text.proofs.put_refused.Statement.{statement}
 use Rattle.text.proofs.put_refused.Tie as tie
 

@@ -1,7 +1,7 @@
 -- `refused_line` meets its contract: the buffer has room for the line, which is put at its start.
 use native.Mathlib.Omega.{arith}
-use Rattle.text.proofs.Room.{held, refused-fits}
 use borrow.Author.Needs.{needs}
+use Rattle.text.proofs.Room.{held, refused-fits}
 use Rattle.text.proofs.refused_line.Statement.{statement}
 use Rattle.text.proofs.refused_line.Tie as tie
 

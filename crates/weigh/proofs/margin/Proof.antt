@@ -1,8 +1,8 @@
 -- `weigh::margin`: a reach and a need are numbers of 32 bits, so their difference fits.
-use borrow.Author.Needs.{needs}
 use Prim.Native.Nat.{ℕ}
 use mathlib.Core.Path.{_∙_, ap₂}
 use lib.IntN.{pos, _-ℤ_}
+use borrow.Author.Needs.{needs}
 use Rattle.rules.specs.Map.{margin}
 use Rattle.weigh.proofs.Margins.{difference, difference-fits}
 use Rattle.weigh.proofs.margin.Statement.{statement}

@@ -1,6 +1,6 @@
 -- `weigh::side_of`: the byte of an atom of 1 to n is its side.
-use borrow.Author.Needs.{needs}
 use mathlib.Core.Path.{sym}
+use borrow.Author.Needs.{needs}
 use denote.Ref.{now}
 use Rattle.rules.proofs.Bytes.{side-at}
 use Rattle.weigh.proofs.side_of.Statement.{statement}

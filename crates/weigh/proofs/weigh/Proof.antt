@@ -3,13 +3,13 @@
 use Prim.Native.Nat.{_+_, _-_, _≤_}
 use mathlib.Core.Path.{_≡_}
 use native.Mathlib.Omega.{arith}
+use denote.Ref.{now}
 use Rattle.rules.specs.Stable.{gain}
 use Rattle.rules.specs.Map.{side}
-use Rattle.table.specs.inner.Words.{seg}
-use Rattle.weigh.specs.inner.Weigh.{sees}
-use denote.Ref.{now}
 use Rattle.rules.specs.Limits.{atomsMost, weightMost}
+use Rattle.table.specs.inner.Words.{seg}
 use Rattle.table.proofs.Words.{gain-next, gain-done, seg-light}
+use Rattle.weigh.specs.inner.Weigh.{sees}
 use Rattle.weigh.proofs.weigh.Statement.{statement}
 use Rattle.weigh.proofs.weigh.Tie as tie
 

@@ -1,7 +1,7 @@
 -- `weigh::weigh_rule`: the two runs of literals, each weighed, are the rule's body.
-use borrow.Author.Needs.{needs}
-use native.Mathlib.Omega.{arith}
 use mathlib.Core.Bool.{true, false}
+use native.Mathlib.Omega.{arith}
+use borrow.Author.Needs.{needs}
 use denote.Ref.{now}
 use Rattle.rules.specs.Limits.{atomsMost, weightMost}
 use Rattle.rules.specs.Map.{side}

@@ -7,11 +7,11 @@ use mathlib.Core.List.{List, List·Memᴰ}
 use Rattle.rules.specs.Rule.{Rule, Weighted, body}
 use Rattle.rules.specs.Map.{Map, side, want}
 use Rattle.rules.specs.Forcing.{Closed}
+use Rattle.rules.specs.inner.Bytes.{MapBytes}
 use Rattle.table.specs.inner.Words.{pairAtom, pairWeight, Pair, Seg}
 use Rattle.table.specs.inner.Rows.{rowRule}
-use Rattle.weigh.specs.declared.Outcome.{Outcome}
 use Rattle.weigh.specs.inner.Step.{Concludes, Decided, Kept, Step, Till}
-use Rattle.rules.specs.inner.Bytes.{MapBytes}
+use Rattle.weigh.specs.declared.Outcome.{Outcome}
 
 -- pair j, if it weighs enough, is not undecided
 abbrev pub PairPressed : List ℕ → ℕ → ℕ → Map → Type 0

@@ -1,12 +1,12 @@
 -- "A map is closed when none of these adds anything. An atom forced both ways is a contradiction."
 -- What a step that works on a map's bytes promises. What it adds holds in every good map above the one that it started from; for
 -- the four forcing rules a good map is a closed one.
-use Rattle.rules.specs.inner.Bytes.{MapBytes}
 use Prim.Native.Nat.{ℕ, _≤_, _<_, _-_}
 use mathlib.Core.Path.{_≡_}
 use mathlib.Core.Bool.{Bool, true, false}
 use mathlib.Core.List.{List}
 use lib.ListN.{length, getD, set}
+use Rattle.rules.specs.inner.Bytes.{MapBytes}
 use Rattle.rules.specs.Map.{Map, side, _⊑_, undecided}
 use Rattle.weigh.specs.declared.Outcome.{Outcome}
 use Rattle.weigh.specs.declared.Outcome.the-variants.{Clash, Same, Grew}

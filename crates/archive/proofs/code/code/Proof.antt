@@ -1,7 +1,7 @@
 -- `code` meets its contract: the remainders fit, and so does their sum.
 use mathlib.Core.Path.{refl}
-use Rattle.archive.specs.Code.{coded}
 use borrow.Author.Needs.{needs}
+use Rattle.archive.specs.Code.{coded}
 use Rattle.archive.proofs.code.code.Statement.{statement}
 use Rattle.archive.proofs.code.code.Tie as tie
 

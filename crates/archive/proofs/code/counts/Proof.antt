@@ -1,7 +1,7 @@
 -- `counts` meets its contract: the remainders fit, and so does their sum.
 use mathlib.Core.Path.{refl}
-use Rattle.archive.specs.Code.{counts}
 use borrow.Author.Needs.{needs}
+use Rattle.archive.specs.Code.{counts}
 use Rattle.archive.proofs.code.counts.Statement.{statement}
 use Rattle.archive.proofs.code.counts.Tie as tie
 

@@ -1,7 +1,7 @@
 -- `of_checked` meets its contract: each case has its code.
 use mathlib.Core.Path.{sym, _∙_, ap}
-use Rattle.archive.specs.Code.{coded, codeChecked}
 use borrow.Author.Needs.{needs}
+use Rattle.archive.specs.Code.{coded, codeChecked}
 use Rattle.archive.proofs.code.of_checked.Statement.{statement}
 use Rattle.archive.proofs.code.of_checked.Tie as tie
 

@@ -1,9 +1,9 @@
 -- `of_margin` meets its contract: each case has its code.
+use mathlib.Core.Path.{sym, _∙_, ap}
+use borrow.Author.Needs.{needs}
 use mir.Syntax.{w64}
 use mir.ValLaws.{toZ-ofZ}
-use mathlib.Core.Path.{sym, _∙_, ap}
 use Rattle.archive.specs.Code.{coded, raised, codeMargin}
-use borrow.Author.Needs.{needs}
 use Rattle.archive.proofs.code.of_margin.Statement.{statement}
 use Rattle.archive.proofs.code.of_margin.Tie as tie
 

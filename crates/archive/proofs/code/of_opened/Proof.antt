@@ -1,7 +1,7 @@
 -- `of_opened` meets its contract: each case has its code.
 use mathlib.Core.Path.{sym, _∙_, ap}
-use Rattle.archive.specs.Code.{codeOpened}
 use borrow.Author.Needs.{needs}
+use Rattle.archive.specs.Code.{codeOpened}
 use Rattle.archive.proofs.code.of_opened.Statement.{statement}
 use Rattle.archive.proofs.code.of_opened.Tie as tie
 

@@ -1,7 +1,7 @@
 -- `of_part` meets its contract: each case has its code.
 use mathlib.Core.Path.{sym, _∙_, ap}
-use Rattle.archive.specs.Code.{codePart}
 use borrow.Author.Needs.{needs}
+use Rattle.archive.specs.Code.{codePart}
 use Rattle.archive.proofs.code.of_part.Statement.{statement}
 use Rattle.archive.proofs.code.of_part.Tie as tie
 

@@ -1,7 +1,7 @@
 -- `of_solved` meets its contract: each case has its code.
 use mathlib.Core.Path.{sym, _∙_, ap}
-use Rattle.archive.specs.Code.{codeSolved}
 use borrow.Author.Needs.{needs}
+use Rattle.archive.specs.Code.{codeSolved}
 use Rattle.archive.proofs.code.of_solved.Statement.{statement}
 use Rattle.archive.proofs.code.of_solved.Tie as tie
 

@@ -1,7 +1,7 @@
 -- `of_tested` meets its contract: each case has its code.
 use mathlib.Core.Path.{sym, _∙_, ap}
-use Rattle.archive.specs.Code.{codeTested}
 use borrow.Author.Needs.{needs}
+use Rattle.archive.specs.Code.{codeTested}
 use Rattle.archive.proofs.code.of_tested.Statement.{statement}
 use Rattle.archive.proofs.code.of_tested.Tie as tie
 

@@ -1,6 +1,6 @@
 -- `size` is safe: each step fits, by the sign of the margin.
-use borrow.Author.Needs.{needs}
 use native.Mathlib.Omega.{arith}
+use borrow.Author.Needs.{needs}
 use Rattle.rules.proofs.Signed.{up-cast, down, down-difference, down-cast, down-size}
 use Rattle.cases.proofs.show.size.Statement.{statement}
 use Rattle.cases.proofs.show.size.Tie as tie

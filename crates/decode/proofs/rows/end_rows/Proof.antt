@@ -1,8 +1,8 @@
 -- `end_rows` meets its contract. The row after the last one stands before the pairs.
 use native.Mathlib.Omega.{arith}
 use borrow.Author.Needs.{needs}
-use Rattle.table.specs.inner.Words.{rowWidth, pairWidth}
 use Rattle.sheet.specs.shown.Encode.{rulesSize}
+use Rattle.table.specs.inner.Words.{rowWidth, pairWidth}
 use Rattle.decode.specs.inner.Rows.{withRules}
 use Rattle.decode.proofs.rows.end_rows.Statement.{statement}
 use Rattle.decode.proofs.rows.end_rows.Tie as tie

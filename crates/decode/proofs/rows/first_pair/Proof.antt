@@ -1,6 +1,6 @@
 -- `first_pair` meets its contract. A rule count is small.
-use native.Mathlib.Omega.{arith}
 use mathlib.Core.Path.{refl}
+use native.Mathlib.Omega.{arith}
 use Rattle.rules.specs.Limits.{rulesMost}
 use Rattle.decode.specs.inner.Rows.{firstPair}
 use Rattle.decode.proofs.rows.first_pair.Statement.{statement}

@@ -37,7 +37,10 @@ add-set-word-2 c = omega arith
 
 set-word-requires-3 : tie.Need-set-word-requires-3
 unfolding rowWidth
-set-word-requires-3 c κs = omega (arith, c .before .before .before .before .before .before .before .set-word .kept, c .before .before .before .set-word2 .kept)
+set-word-requires-3 c κs =
+    let at-set-word = c .before .before .before in
+    let at-set-word′ = at-set-word .before .before .before .before in
+    omega (arith, at-set-word′ .set-word .kept, at-set-word .set-word2 .kept)
 
 mul-set-word-4 : tie.Need-mul-set-word-4
 unfolding rowWidth
@@ -49,7 +52,11 @@ add-set-word-3 c = omega arith
 
 set-word-requires-4 : tie.Need-set-word-requires-4
 unfolding rowWidth
-set-word-requires-4 c κs = omega (arith, c .before .before .before .before .before .before .before .before .before .before .before .set-word .kept, c .before .before .before .before .before .before .before .set-word2 .kept, c .before .before .before .set-word3 .kept)
+set-word-requires-4 c κs =
+    let at-set-word = c .before .before .before in
+    let at-set-word′ = at-set-word .before .before .before .before in
+    let at-set-word′′ = at-set-word′ .before .before .before .before in
+    omega (arith, at-set-word′′ .set-word .kept, at-set-word′ .set-word2 .kept, at-set-word .set-word3 .kept)
 
 mul-set-word-5 : tie.Need-mul-set-word-5
 unfolding rowWidth
@@ -61,7 +68,12 @@ add-set-word-4 c = omega arith
 
 set-word-requires-5 : tie.Need-set-word-requires-5
 unfolding rowWidth
-set-word-requires-5 c κs = omega (arith, c .before .before .before .before .before .before .before .before .before .before .before .before .before .before .before .set-word .kept, c .before .before .before .before .before .before .before .before .before .before .before .set-word2 .kept, c .before .before .before .before .before .before .before .set-word3 .kept, c .before .before .before .set-word4 .kept)
+set-word-requires-5 c κs =
+    let at-set-word = c .before .before .before in
+    let at-set-word′ = at-set-word .before .before .before .before in
+    let at-set-word′′ = at-set-word′ .before .before .before .before in
+    let at-set-word′′′ = at-set-word′′ .before .before .before .before in
+    omega (arith, at-set-word′′′ .set-word .kept, at-set-word′′ .set-word2 .kept, at-set-word′ .set-word3 .kept, at-set-word .set-word4 .kept)
 
 same-length : tie.Need-same-length
 same-length c = search needs

@@ -1,7 +1,7 @@
 -- `check` meets its contract: the counts of the sheet that was read.
 use mathlib.Core.Path.{sym, _∙_}
-use Rattle.desk.proofs.calls.Laws.{checks-refused, checks-accepted}
 use borrow.Author.Needs.{needs}
+use Rattle.desk.proofs.calls.Laws.{checks-refused, checks-accepted}
 use Rattle.desk.proofs.calls.check.Statement.{statement}
 use Rattle.desk.proofs.calls.check.Tie as tie
 

@@ -1,11 +1,11 @@
 -- `margin` meets its contract: its gate, and the rule weighed.
-use Rattle.gate.proofs.Calls.{margin-fits}
-use Rattle.desk.proofs.calls.Laws.{margins-refused, margins, fits-as, stopped, went}
-use Rattle.rules.specs.Limits.{atomsMost}
+use mathlib.Core.Path.{refl}
 use borrow.Author.Needs.{needs, sfits-of}
 use mir.Syntax.{w64}
 use mir.ValLaws.{toZ-ofZ}
-use mathlib.Core.Path.{refl}
+use Rattle.rules.specs.Limits.{atomsMost}
+use Rattle.gate.proofs.Calls.{margin-fits}
+use Rattle.desk.proofs.calls.Laws.{margins-refused, margins, fits-as, stopped, went}
 use Rattle.desk.proofs.calls.margin.Statement.{statement}
 use Rattle.desk.proofs.calls.margin.Tie as tie
 
@@ -26,10 +26,17 @@ enum-known-answer : tie.Need-enum-known-answer
 enum-known-answer c = search needs
 
 returns : tie.Need-returns
-returns c = margins-refused _ _ _ _ (stopped (c .before .before .before .before .before .before .margin-gate .ensures) (c .before .before .before .before .serve .ensures) _ (c .before .why .given .1))
+returns c =
+    let at-serve = c .before .before .before .before in
+    let at-margin-gate = at-serve .before .before in
+    margins-refused _ _ _ _ (stopped (at-margin-gate .margin-gate .ensures) (at-serve .serve .ensures) _ (c .before .why .given .1))
 
 returns-2 : tie.Need-returns-2
-returns-2 c = margins _ (went (c .before .before .before .before .before .before .before .margin-gate .ensures) (c .before .before .before .before .before .serve .ensures) _ (c .before .before .answer .given .1)) (toZ-ofZ w64 _ (sfits-of (c .struct-told .given .1 .1 .1 .0 .1)))
+returns-2 c =
+    let at-answer = c .before .before in
+    let at-serve = at-answer .before .before .before in
+    let at-margin-gate = at-serve .before .before in
+    margins _ (went (at-margin-gate .margin-gate .ensures) (at-serve .serve .ensures) _ (at-answer .answer .given .1)) (toZ-ofZ w64 _ (sfits-of (c .struct-told .given .1 .1 .1 .0 .1)))
 
 pub margin-spec : {M : Type 1} → statement M
 margin-spec =

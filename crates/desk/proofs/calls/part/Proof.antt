@@ -1,9 +1,9 @@
 -- `part` meets its contract: its gate, and the part of the row.
+use mathlib.Core.Path.{refl}
+use borrow.Author.Needs.{needs}
+use Rattle.rules.specs.Limits.{atomsMost}
 use Rattle.gate.proofs.Calls.{part-fits}
 use Rattle.desk.proofs.calls.Laws.{parts-value, parts-refused, parts-nothing, fits-as, went, stopped}
-use Rattle.rules.specs.Limits.{atomsMost}
-use borrow.Author.Needs.{needs}
-use mathlib.Core.Path.{refl}
 use Rattle.desk.proofs.calls.part.Statement.{statement}
 use Rattle.desk.proofs.calls.part.Tie as tie
 
@@ -27,13 +27,24 @@ enum-known-answer : tie.Need-enum-known-answer
 enum-known-answer c = search needs
 
 returns : tie.Need-returns
-returns c = parts-value _ _ _ (went (c .before .before .before .before .before .before .before .before .part-gate .ensures) (c .before .before .before .before .before .serve .ensures) _ (c .before .before .answer .given .1)) (c .if1 .taken)
+returns c =
+    let at-answer = c .before .before in
+    let at-serve = at-answer .before .before .before in
+    let at-part-gate = at-serve .before .before .before in
+    parts-value _ _ _ (went (at-part-gate .part-gate .ensures) (at-serve .serve .ensures) _ (at-answer .answer .given .1)) (c .if1 .taken)
 
 returns-2 : tie.Need-returns-2
-returns-2 c = parts-refused _ _ _ _ _ (stopped (c .before .before .before .before .before .before .before .part-gate .ensures) (c .before .before .before .before .serve .ensures) _ (c .before .why .given .1))
+returns-2 c =
+    let at-serve = c .before .before .before .before in
+    let at-part-gate = at-serve .before .before .before in
+    parts-refused _ _ _ _ _ (stopped (at-part-gate .part-gate .ensures) (at-serve .serve .ensures) _ (c .before .why .given .1))
 
 returns-3 : tie.Need-returns-3
-returns-3 c = parts-nothing _ _ _ (went (c .before .before .before .before .before .before .before .before .part-gate .ensures) (c .before .before .before .before .before .serve .ensures) _ (c .before .before .answer .given .1)) (c .if1 .left)
+returns-3 c =
+    let at-answer = c .before .before in
+    let at-serve = at-answer .before .before .before in
+    let at-part-gate = at-serve .before .before .before in
+    parts-nothing _ _ _ (went (at-part-gate .part-gate .ensures) (at-serve .serve .ensures) _ (at-answer .answer .given .1)) (c .if1 .left)
 
 pub part-spec : {M : Type 1} → statement M
 part-spec =

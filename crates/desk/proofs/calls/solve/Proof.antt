@@ -1,9 +1,9 @@
 -- `solve` meets its contract: its gate, its task, and the answer handed over.
+use mathlib.Core.Path.{refl}
+use borrow.Author.Needs.{needs}
+use Rattle.rules.specs.Limits.{atomsMost}
 use Rattle.gate.proofs.Calls.{solve-fits, solve-goes}
 use Rattle.desk.proofs.calls.Laws.{solves-refused, fits-as, rooms, stopped, solves, went}
-use Rattle.rules.specs.Limits.{atomsMost}
-use borrow.Author.Needs.{needs}
-use mathlib.Core.Path.{refl}
 use Rattle.desk.proofs.calls.solve.Statement.{statement}
 use Rattle.desk.proofs.calls.solve.Tie as tie
 
@@ -28,20 +28,32 @@ slice-aggregate-hand-model c = search needs
 
 hand-model-requires : tie.Need-hand-model-requires
 unfolding atomsMost
-hand-model-requires c κs = rooms (λ o t g. solve-goes _ _ g .1) refl (went (c .before .before .before .before .before .before .before .before .before .solve-gate .ensures) (c .before .before .before .before .before .before .serve .ensures) _ (c .before .before .before .answer .given .1))
+hand-model-requires c κs =
+    let at-answer = c .before .before .before in
+    let at-serve = at-answer .before .before .before in
+    let at-solve-gate = at-serve .before .before .before in
+    rooms (λ o t g. solve-goes _ _ g .1) refl (went (at-solve-gate .solve-gate .ensures) (at-serve .serve .ensures) _ (at-answer .answer .given .1))
 
 same-length : tie.Need-same-length
 same-length c = search needs
 
 returns : tie.Need-returns
-returns c = solves-refused _ _ _ (stopped (c .before .before .before .before .before .before .before .solve-gate .ensures) (c .before .before .before .before .serve .ensures) _ (c .before .why .given .1))
+returns c =
+    let at-serve = c .before .before .before .before in
+    let at-solve-gate = at-serve .before .before .before in
+    solves-refused _ _ _ (stopped (at-solve-gate .solve-gate .ensures) (at-serve .serve .ensures) _ (c .before .why .given .1))
 
 same-length-2 : tie.Need-same-length-2
 same-length-2 c = search needs
 
 returns-2 : tie.Need-returns-2
 unfolding atomsMost
-returns-2 c = solves (went (c .before .before .before .before .before .before .before .before .before .before .before .before .solve-gate .ensures) (c .before .before .before .before .before .before .before .before .before .serve .ensures) _ (c .before .before .before .before .before .before .answer .given .1)) (c .before .before .hand-model .ensures)
+returns-2 c =
+    let at-hand-model = c .before .before in
+    let at-answer = at-hand-model .before .before .before .before in
+    let at-serve = at-answer .before .before .before in
+    let at-solve-gate = at-serve .before .before .before in
+    solves (went (at-solve-gate .solve-gate .ensures) (at-serve .serve .ensures) _ (at-answer .answer .given .1)) (at-hand-model .hand-model .ensures)
 
 pub solve-spec : {M : Type 1} → statement M
 solve-spec =

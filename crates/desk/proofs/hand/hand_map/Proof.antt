@@ -1,6 +1,6 @@
 -- `hand_map` meets its contract: the bytes are copied, or n bytes of 3 written.
-use Rattle.desk.proofs.hand.Laws.{map-handed, no-map-handed}
 use borrow.Author.Needs.{needs}
+use Rattle.desk.proofs.hand.Laws.{map-handed, no-map-handed}
 use Rattle.desk.proofs.hand.hand_map.Statement.{statement}
 use Rattle.desk.proofs.hand.hand_map.Tie as tie
 

@@ -1,6 +1,6 @@
 -- `hand_model` meets its contract: the bytes are copied, or n bytes of 3 written.
-use Rattle.desk.proofs.hand.Laws.{model-handed, no-model-handed}
 use borrow.Author.Needs.{needs}
+use Rattle.desk.proofs.hand.Laws.{model-handed, no-model-handed}
 use Rattle.desk.proofs.hand.hand_model.Statement.{statement}
 use Rattle.desk.proofs.hand.hand_model.Tie as tie
 

@@ -1,8 +1,8 @@
 -- `run_on` meets its contract: the sheet is decoded, and the task performed on its table.
 use native.Mathlib.Omega.{arith}
-use Rattle.desk.proofs.run.Laws.{never-refused, performed, decoded}
-use Rattle.rules.specs.Limits.{atomsMost, rulesMost}
 use borrow.Author.Needs.{needs}
+use Rattle.rules.specs.Limits.{atomsMost, rulesMost}
+use Rattle.desk.proofs.run.Laws.{never-refused, performed, decoded}
 use Rattle.desk.proofs.run.run_on.Statement.{statement}
 use Rattle.desk.proofs.run.run_on.Tie as tie
 
@@ -21,10 +21,17 @@ cast-n c = omega (arith, decoded _ (c .before .before .before .before .before .d
 
 cast-count : tie.Need-cast-count
 unfolding rulesMost
-cast-count c = omega (arith, decoded _ (c .before .before .before .before .before .before .decode .ensures) (c .before .before .enum-told .given .1) .laid .fewRules)
+cast-count c =
+    let at-enum-told = c .before .before in
+    let at-decode = at-enum-told .before .before .before .before in
+    omega (arith, decoded _ (at-decode .decode .ensures) (at-enum-told .enum-told .given .1) .laid .fewRules)
 
 perform-task-requires : tie.Need-perform-task-requires
-perform-task-requires c κs = let p = c .before .before .before .before .before .before .before .before .before .before .before .before .before .before .pre in (decoded _ (c .before .before .before .before .before .before .before .before .decode .ensures) (c .before .before .before .before .enum-told .given .1) .laid, (p .1 .0 .fits, p .1 .1))
+perform-task-requires c κs =
+    let at-enum-told = c .before .before .before .before in
+    let at-decode = at-enum-told .before .before .before .before in
+    let start = at-decode .before .before .before .before .before .before in
+    let p = start .pre in (decoded _ (at-decode .decode .ensures) (at-enum-told .enum-told .given .1) .laid, (p .1 .0 .fits, p .1 .1))
 
 same-length : tie.Need-same-length
 same-length c = search needs
@@ -39,7 +46,11 @@ same-length-3 : tie.Need-same-length-3
 same-length-3 c = search needs
 
 returns-2 : tie.Need-returns-2
-returns-2 c = performed (decoded _ (c .before .before .before .before .before .before .before .before .before .before .before .decode .ensures) (c .before .before .before .before .before .before .before .enum-told .given .1)) (c .before .before .perform-task .ensures)
+returns-2 c =
+    let at-perform-task = c .before .before in
+    let at-enum-told = at-perform-task .before .before .before .before .before in
+    let at-decode = at-enum-told .before .before .before .before in
+    performed (decoded _ (at-decode .decode .ensures) (at-enum-told .enum-told .given .1)) (at-perform-task .perform-task .ensures)
 
 pub run-on-spec : {M : Type 1} → statement M
 run-on-spec =

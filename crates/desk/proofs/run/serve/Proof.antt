@@ -1,6 +1,6 @@
 -- `serve` meets its contract: a refusal is handed on, and what goes on is run.
-use Rattle.desk.proofs.run.Laws.{gate-fit, served-stop, served-go}
 use borrow.Author.Needs.{needs}
+use Rattle.desk.proofs.run.Laws.{gate-fit, served-stop, served-go}
 use Rattle.desk.proofs.run.serve.Statement.{statement}
 use Rattle.desk.proofs.run.serve.Tie as tie
 
@@ -11,7 +11,10 @@ enum-known-gate-2 : tie.Need-enum-known-gate-2
 enum-known-gate-2 c = search needs
 
 run-requires : tie.Need-run-requires
-run-requires c κs = (gate-fit (c .before .before .gate2 .given .1) (c .before .before .before .before .before .before .before .pre .0), c .before .before .before .before .before .before .before .pre .1)
+run-requires c κs =
+    let at-gate = c .before .before in
+    let start = at-gate .before .before .before .before .before in
+    (gate-fit (at-gate .gate2 .given .1) (start .pre .0), start .pre .1)
 
 returns : tie.Need-returns
 returns c = served-stop _ (c .before .gate .given .1)

@@ -1,9 +1,9 @@
 -- `forcing::ground::drop_all`: the atoms before the present one that are not in U are out, or something was added.
-use denote.Ref.{now}
 use Prim.Native.Nat.{_+_, _-_}
 use mathlib.Core.Path.{sym, _∙_}
 use native.Mathlib.Omega.{arith}
 use borrow.Author.Needs.{needs}
+use denote.Ref.{now}
 use Rattle.forcing.specs.inner.Ground.{Drops}
 use Rattle.forcing.proofs.Founding.{drop-begin, drop-more, drop-clash, drop-end}
 use Rattle.forcing.proofs.ground.drop_all.Statement.{statement}

@@ -1,8 +1,8 @@
 -- `forcing::ground::founded`: what is gathered has to be in U, and each sweep that adds something leaves fewer atoms outside.
-use denote.Ref.{now}
 use Prim.Native.Nat.{_<_}
 use mathlib.Core.Path.{sym, _∙_}
 use borrow.Author.Needs.{needs}
+use denote.Ref.{now}
 use Rattle.rules.specs.Map.{undecided}
 use Rattle.forcing.specs.inner.Ground.{Founding}
 use Rattle.forcing.proofs.Founding.{founding-begin, founding-more, founding-end}

@@ -1,17 +1,17 @@
 -- `forcing::ground::ground_all`: what the rules visited before the present one give from U is in U, or something was added.
-use denote.Ref.{now}
 use Prim.Native.Nat.{ℕ, _-_, _<_}
 use mathlib.Core.Bool.{Bool}
 use mathlib.Core.List.{List}
 use native.Mathlib.Omega.{arith}
 use borrow.Author.Needs.{needs}
+use denote.Ref.{now}
 use Rattle.rules.specs.Map.{Map, side}
 use Rattle.table.specs.inner.Rows.{rowRule, tableRules}
 use Rattle.table.proofs.Rows.{rule-mem}
 use Rattle.weigh.specs.inner.Step.{Step, Till}
+use Rattle.weigh.proofs.Steps.{quieter, steps-begin, steps-more, steps-end}
 use Rattle.forcing.specs.inner.Pass.{placed}
 use Rattle.forcing.specs.inner.Ground.{Grounding, Grounded}
-use Rattle.weigh.proofs.Steps.{quieter, steps-begin, steps-more, steps-end}
 use Rattle.forcing.proofs.Passes.{placed-less, visited, at-place}
 use Rattle.forcing.proofs.ground.ground_all.Statement.{statement}
 use Rattle.forcing.proofs.ground.ground_all.Tie as tie

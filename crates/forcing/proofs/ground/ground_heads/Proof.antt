@@ -1,9 +1,9 @@
 -- `forcing::ground::ground_heads`: the heads before the present one are in U, unless they are out.
-use denote.Ref.{now}
 use Prim.Native.Nat.{_-_, _≤_}
 use mathlib.Core.Path.{sym, subst}
 use native.Mathlib.Omega.{arith}
 use borrow.Author.Needs.{needs}
+use denote.Ref.{now}
 use Rattle.rules.specs.Rule.{Within}
 use Rattle.table.specs.inner.Rows.{headsAt}
 use Rattle.forcing.specs.inner.Ground.{GroundsHeads}

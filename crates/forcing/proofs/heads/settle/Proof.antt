@@ -1,6 +1,6 @@
 -- `forcing::heads::settle`: a choice rule and a head that is in leave nothing to do, and any other rule is settled by its head.
-use borrow.Author.Needs.{needs}
 use mathlib.Core.Path.{sym, _∙_, ap, subst}
+use borrow.Author.Needs.{needs}
 use denote.Ref.{now}
 use Rattle.rules.specs.Rule.{Within}
 use Rattle.table.specs.inner.Words.{pairAtom}

@@ -12,9 +12,9 @@ use Rattle.rules.specs.Forcing.{Closed}
 use Rattle.table.specs.inner.Rows.{rowRule, tableRules}
 use Rattle.table.proofs.Rows.{rule-mem}
 use Rattle.weigh.specs.inner.Step.{Step, Till}
+use Rattle.weigh.proofs.Steps.{clash-any, quieter, steps-begin, steps-more, steps-end}
 use Rattle.forcing.specs.inner.Pass.{placed}
 use Rattle.forcing.specs.inner.Heads.{Settled}
-use Rattle.weigh.proofs.Steps.{clash-any, quieter, steps-begin, steps-more, steps-end}
 use Rattle.forcing.proofs.Passes.{placed-less, visited, at-place}
 use Rattle.forcing.proofs.heads.settle_all.Statement.{statement}
 use Rattle.forcing.proofs.heads.settle_all.Tie as tie
@@ -46,7 +46,10 @@ row c =
     omega (arith, c .place .ensures, placed-less (a .down) (a .count) (c .before .before .loop .i) (c .before .loop-test .taken))
 
 settle-requires : tie.Need-settle-requires Inv-loop μ-loop
-settle-requires c κs = (c .before .before .before .before .before .before .pre .0 .rows (c .before .place .result) (row (c .before)), c .before .before .before .loop .inv .kept .proper)
+settle-requires c κs =
+    let at-loop = c .before .before .before in
+    let start = at-loop .before .before .before in
+    (start .pre .0 .rows (c .before .place .result) (row (c .before)), at-loop .loop .inv .kept .proper)
 
 join-requires : tie.Need-join-requires Inv-loop μ-loop
 join-requires c κs = search needs

@@ -1,6 +1,6 @@
 -- `forcing::heads::settle_head`: each way out is a case of the forcing rules 1 and 3.
-use borrow.Author.Needs.{needs}
 use mathlib.Core.Path.{sym, subst}
+use borrow.Author.Needs.{needs}
 use denote.Ref.{now}
 use Rattle.rules.specs.Rule.{Within}
 use Rattle.forcing.proofs.Settling.{head-within, settle-give, settle-deny, settle-wait}

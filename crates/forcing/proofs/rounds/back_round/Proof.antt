@@ -1,9 +1,9 @@
 -- `forcing::close::back_round`: where no atom is undecided there is nothing to add; else the counts begin at zero, and the rules are
 -- backed by them.
-use borrow.Author.Needs.{needs}
-use denote.Ref.{now}
 use Prim.Native.Nat.{ℕ, _≤_}
 use mathlib.Core.Path.{sym, subst}
+use borrow.Author.Needs.{needs}
+use denote.Ref.{now}
 use Rattle.rules.specs.Limits.{atomsMost}
 use Rattle.weigh.proofs.Bytes.{blank-room, blank-side}
 use Rattle.forcing.proofs.Closings.{backed, backed-whole}

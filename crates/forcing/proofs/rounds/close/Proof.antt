@@ -1,9 +1,9 @@
 -- `forcing::close::close`: what the rounds add is forced from the map at first, and each round that adds something leaves fewer
 -- atoms undecided.
-use denote.Ref.{now}
 use Prim.Native.Nat.{_<_}
 use mathlib.Core.Path.{sym, _∙_}
 use borrow.Author.Needs.{needs}
+use denote.Ref.{now}
 use Rattle.rules.specs.Map.{undecided}
 use Rattle.forcing.specs.inner.Rounds.{Closes}
 use Rattle.forcing.proofs.Closings.{closes-begin, closes-more, closes-none, closes-with}

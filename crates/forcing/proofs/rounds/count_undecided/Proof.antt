@@ -1,9 +1,9 @@
 -- `forcing::close::count_undecided`: what is counted and the zero bytes that are left are all of them.
-use denote.Ref.{now}
 use Prim.Native.Nat.{ℕ, _+_, _-_}
 use mathlib.Core.Path.{sym, subst}
 use mathlib.Core.Logic.{⊎-elim}
 use native.Mathlib.Omega.{arith}
+use denote.Ref.{now}
 use Rattle.forcing.specs.inner.Rounds.{Summed}
 use Rattle.forcing.proofs.Closings.{summed-begin, summed-zero, summed-other, summed-end}
 use Rattle.forcing.proofs.rounds.count_undecided.Statement.{statement}

@@ -1,9 +1,9 @@
 -- `forcing::close::drop_round`: U is gathered from nothing, and the atoms outside it are dropped.
 use borrow.Author.Needs.{needs}
 use denote.Ref.{now}
-use Rattle.forcing.proofs.Closings.{dropped}
 use Rattle.rules.specs.Limits.{atomsMost}
 use Rattle.weigh.proofs.Bytes.{blank-proper, blank-side}
+use Rattle.forcing.proofs.Closings.{dropped}
 use Rattle.forcing.proofs.rounds.drop_round.Statement.{statement}
 use Rattle.forcing.proofs.rounds.drop_round.Tie as tie
 

@@ -1,9 +1,9 @@
 -- `forcing::close::lowest`: every index that the loop has passed has a byte that is not 0.
 use Prim.Native.Nat.{ℕ, _≤_, _<_, _-_}
 use mathlib.Core.Path.{_≡_}
+use lib.ListN.{getD}
 use borrow.Author.Needs.{needs}
 use borrow.Author.Count.{below-more}
-use lib.ListN.{getD}
 use Rattle.forcing.proofs.rounds.lowest.Statement.{statement}
 use Rattle.forcing.proofs.rounds.lowest.Tie as tie
 

@@ -1,7 +1,7 @@
 -- `forcing::close::round`: a pass that adds something ends the round, and three that add nothing leave a closed map.
+use mathlib.Core.Path.{sym, _∙_}
 use borrow.Author.Needs.{needs}
 use denote.Ref.{now}
-use mathlib.Core.Path.{sym, _∙_}
 use Rattle.rules.specs.Forcing.{Closed}
 use Rattle.table.specs.inner.Rows.{tableRules}
 use Rattle.forcing.proofs.Closings.{loud-any, round-whole, round-second}

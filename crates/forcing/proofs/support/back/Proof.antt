@@ -1,11 +1,11 @@
 -- `forcing::support::back`: each way out is a case of forcing rule 2.
+use native.Mathlib.Omega.{arith}
 use borrow.Author.Needs.{needs}
 use denote.Ref.{now}
-use native.Mathlib.Omega.{arith}
 use Rattle.rules.specs.Limits.{atomsMost, weightMost}
 use Rattle.rules.specs.Map.{side, isnt}
-use Rattle.forcing.proofs.Backing.{back-none, back-short, back-press}
 use Rattle.weigh.proofs.Weights.{value-light}
+use Rattle.forcing.proofs.Backing.{back-none, back-short, back-press}
 use Rattle.forcing.proofs.support.back.Statement.{statement}
 use Rattle.forcing.proofs.support.back.Tie as tie
 

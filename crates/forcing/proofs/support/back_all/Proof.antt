@@ -1,15 +1,15 @@
 -- `forcing::support::back_all`: the rules before the present one are backed, or something was added, from where the pass began.
-use denote.Ref.{now}
 use Prim.Native.Nat.{_+_, _-_}
 use mathlib.Core.Path.{sym, _∙_}
 use native.Mathlib.Omega.{arith}
 use borrow.Author.Needs.{needs}
+use denote.Ref.{now}
 use Rattle.rules.specs.Map.{side}
 use Rattle.rules.specs.Forcing.{Closed}
 use Rattle.table.specs.inner.Rows.{rowRule, tableRules}
 use Rattle.table.proofs.Rows.{rule-mem}
-use Rattle.forcing.specs.inner.Support.{Counts, Backed, BacksAll}
 use Rattle.weigh.proofs.Steps.{clash-any, steps-begin, steps-more, steps-end}
+use Rattle.forcing.specs.inner.Support.{Counts, Backed, BacksAll}
 use Rattle.forcing.proofs.support.back_all.Statement.{statement}
 use Rattle.forcing.proofs.support.back_all.Tie as tie
 

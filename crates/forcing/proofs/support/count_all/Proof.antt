@@ -1,9 +1,9 @@
 -- `forcing::support::count_all`: the rules before the present one are counted.
-use denote.Ref.{now}
 use Prim.Native.Nat.{_-_}
 use mathlib.Core.Path.{_≡_, refl, _∙_}
 use native.Mathlib.Omega.{arith}
 use lib.ListN.{length}
+use denote.Ref.{now}
 use Rattle.rules.specs.Map.{side}
 use Rattle.forcing.specs.inner.Support.{Counting}
 use Rattle.forcing.proofs.Counting.{counting-begin, counting-small, counting-more, counting-end}

@@ -1,8 +1,8 @@
 -- `forcing::support::count_heads`: the heads before the present one are counted.
-use denote.Ref.{now}
 use Prim.Native.Nat.{_-_}
 use native.Mathlib.Omega.{arith}
 use borrow.Author.Needs.{needs}
+use denote.Ref.{now}
 use Rattle.rules.specs.Map.{side}
 use Rattle.forcing.specs.inner.Support.{Heading}
 use Rattle.forcing.proofs.Counting.{heading-begin, heading-small, heading-more, heading-end}

@@ -1,7 +1,7 @@
 -- `forcing::support::count_of`: the count of an atom of 1 to n stands at its index.
+use mathlib.Core.Path.{sym}
 use borrow.Author.Needs.{needs}
 use denote.Ref.{now}
-use mathlib.Core.Path.{sym}
 use Rattle.rules.proofs.Bytes.{side-at}
 use Rattle.forcing.proofs.support.count_of.Statement.{statement}
 use Rattle.forcing.proofs.support.count_of.Tie as tie

@@ -1,7 +1,5 @@
 -- `forcing::support::count_pair`: a count is at most one above the most rules, so one more fits; and only an atom that is in has one
 -- more.
-use borrow.Author.Needs.{needs}
-use denote.Ref.{now}
 use Prim.Native.Nat.{ℕ, _+_, _-_}
 use mathlib.Core.Path.{sym, _∙_, ap, ap₂, subst}
 use mathlib.Core.Bool.{_&&_}
@@ -9,6 +7,8 @@ use mathlib.Core.List.{List}
 use native.Mathlib.Omega.{arith}
 use lib.Dec.{eqb}
 use lib.ListN.{set}
+use borrow.Author.Needs.{needs}
+use denote.Ref.{now}
 use Rattle.rules.specs.Limits.{rulesMost}
 use Rattle.rules.specs.Rule.{Within}
 use Rattle.rules.specs.Map.{side, is}

@@ -1,8 +1,8 @@
 -- `forcing::support::has_lone`: no head before the present one is so.
-use denote.Ref.{now}
 use Prim.Native.Nat.{_-_, _≤_}
 use native.Mathlib.Omega.{arith}
 use borrow.Author.Needs.{needs}
+use denote.Ref.{now}
 use Rattle.rules.specs.Map.{side}
 use Rattle.table.specs.inner.Rows.{headsAt}
 use Rattle.forcing.specs.inner.Support.{NotLone}

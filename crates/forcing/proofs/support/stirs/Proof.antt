@@ -1,9 +1,9 @@
 -- `forcing::support::stirs`: no head before the present one is in.
-use denote.Ref.{now}
 use Prim.Native.Nat.{_-_, _≤_}
 use mathlib.Core.Path.{_≡_, sym, _∙_, ap, subst}
 use native.Mathlib.Omega.{arith}
 use borrow.Author.Needs.{needs}
+use denote.Ref.{now}
 use Rattle.rules.specs.Rule.{Within}
 use Rattle.rules.specs.Map.{side}
 use Rattle.table.specs.inner.Rows.{headsAt}

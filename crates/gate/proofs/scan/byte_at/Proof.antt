@@ -1,8 +1,8 @@
 -- `byte_at` meets its contract: past the end the default is 0.
 use mathlib.Core.Path.{sym}
 use lib.ListN.{List·getD-eq-default}
-use denote.Ref.{now}
 use borrow.Author.Needs.{needs}
+use denote.Ref.{now}
 use Rattle.gate.proofs.scan.byte_at.Statement.{statement}
 use Rattle.gate.proofs.scan.byte_at.Tie as tie
 

@@ -3,8 +3,8 @@ use Prim.Native.Nat.{_≤_, _-_}
 use mathlib.Core.Path.{_≡_, sym, _∙_, ap}
 use native.Mathlib.Nat.{sub-zero}
 use native.Mathlib.Omega.{arith}
-use denote.Ref.{now}
 use borrow.Author.Needs.{needs}
+use denote.Ref.{now}
 use Rattle.gate.specs.Scan.{between, faultFrom, firstFault}
 use Rattle.gate.proofs.scan.Laws.{scan-on, scan-here, scan-over}
 use Rattle.gate.proofs.scan.first_fault.Statement.{statement}

@@ -1,7 +1,7 @@
 -- `map_fault` meets its contract: the first byte says which scan it is.
+use mathlib.Core.Path.{sym, _∙_}
 use borrow.Author.Needs.{needs}
 use borrow.Author.Tests.{eq-eqb, ne-eqb}
-use mathlib.Core.Path.{sym, _∙_}
 use Rattle.numbers.proofs.Answer.{picked, passed}
 use Rattle.gate.specs.Scan.{mapFault}
 use Rattle.gate.proofs.scan.Maps.{fewest}

@@ -4,9 +4,9 @@ use native.Mathlib.Omega.{arith}
 use borrow.Author.Needs.{needs}
 use Rattle.rules.specs.Limits.{numberMost}
 use Rattle.numbers.proofs.lists.Most.{list-most}
-use Rattle.sheet.proofs.body.Laws.{weighed-by}
-use Rattle.sheet.specs.Body.{bodyAt}
 use Rattle.numbers.proofs.Answer.{ways}
+use Rattle.sheet.specs.Body.{bodyAt}
+use Rattle.sheet.proofs.body.Laws.{weighed-by}
 use Rattle.sheet.proofs.body.read_body.Statement.{statement}
 use Rattle.sheet.proofs.body.read_body.Tie as tie
 

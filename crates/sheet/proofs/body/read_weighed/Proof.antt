@@ -1,8 +1,8 @@
 -- `read_weighed` meets its contract: the weights of the positive literals, and then of the negated.
 use borrow.Author.Needs.{needs}
-use Rattle.sheet.proofs.body.Laws.{weights-by}
-use Rattle.sheet.specs.Body.{weighedAt}
 use Rattle.numbers.proofs.Answer.{ways}
+use Rattle.sheet.specs.Body.{weighedAt}
+use Rattle.sheet.proofs.body.Laws.{weights-by}
 use Rattle.sheet.proofs.body.read_weighed.Statement.{statement}
 use Rattle.sheet.proofs.body.read_weighed.Tie as tie
 

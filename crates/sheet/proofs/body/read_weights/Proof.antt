@@ -7,8 +7,8 @@ use borrow.Author.Needs.{needs}
 use Rattle.rules.specs.Limits.{weightMost}
 use Rattle.numbers.specs.Answer.{span}
 use Rattle.numbers.specs.Lists.{inTurn}
-use Rattle.sheet.specs.Body.{weightAt, weightsAt}
 use Rattle.numbers.proofs.lists.Laws.{turn, turn-out, turned}
+use Rattle.sheet.specs.Body.{weightAt, weightsAt}
 use Rattle.sheet.proofs.body.Laws.{weights-alike}
 use Rattle.sheet.proofs.body.read_weights.Statement.{statement}
 use Rattle.sheet.proofs.body.read_weights.Tie as tie

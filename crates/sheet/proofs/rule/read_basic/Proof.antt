@@ -1,7 +1,7 @@
 -- `read_basic` meets its contract: each way through its tests is a case of `basicAt`.
 use borrow.Author.Needs.{needs}
-use Rattle.sheet.specs.Rule.{basicAt, headThen}
 use Rattle.numbers.proofs.Answer.{ways}
+use Rattle.sheet.specs.Rule.{basicAt, headThen}
 use Rattle.sheet.proofs.rule.read_basic.Statement.{statement}
 use Rattle.sheet.proofs.rule.read_basic.Tie as tie
 

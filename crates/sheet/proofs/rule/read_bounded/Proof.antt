@@ -1,8 +1,8 @@
 -- `read_bounded` meets its contract: each way through its tests is a case of `boundedAt`.
 use borrow.Author.Needs.{needs}
-use Rattle.sheet.proofs.body.Laws.{body-by}
-use Rattle.sheet.specs.Rule.{boundedAt, headThen}
 use Rattle.numbers.proofs.Answer.{ways}
+use Rattle.sheet.specs.Rule.{boundedAt, headThen}
+use Rattle.sheet.proofs.body.Laws.{body-by}
 use Rattle.sheet.proofs.rule.read_bounded.Statement.{statement}
 use Rattle.sheet.proofs.rule.read_bounded.Tie as tie
 

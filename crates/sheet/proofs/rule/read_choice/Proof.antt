@@ -1,7 +1,7 @@
 -- `read_choice` meets its contract: a list of heads, and then the body.
 use borrow.Author.Needs.{needs}
-use Rattle.sheet.specs.Rule.{choiceAt}
 use Rattle.numbers.proofs.Answer.{ways}
+use Rattle.sheet.specs.Rule.{choiceAt}
 use Rattle.sheet.proofs.rule.read_choice.Statement.{statement}
 use Rattle.sheet.proofs.rule.read_choice.Tie as tie
 

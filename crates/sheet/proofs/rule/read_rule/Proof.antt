@@ -1,7 +1,7 @@
 -- `read_rule` meets its contract: each way through its tests is a case of `ruleAt`.
 use borrow.Author.Needs.{needs}
-use Rattle.sheet.specs.Rule.{ruleAt}
 use Rattle.numbers.proofs.Answer.{ways}
+use Rattle.sheet.specs.Rule.{ruleAt}
 use Rattle.sheet.proofs.rule.read_rule.Statement.{statement}
 use Rattle.sheet.proofs.rule.read_rule.Tie as tie
 

@@ -6,8 +6,8 @@ use native.Mathlib.Omega.{arith}
 use borrow.Author.Needs.{needs}
 use Rattle.numbers.specs.Answer.{span}
 use Rattle.numbers.specs.Lists.{inTurn}
-use Rattle.sheet.specs.Rule.{ruleStep, rulesAt}
 use Rattle.numbers.proofs.lists.Laws.{turn, turn-out, turned}
+use Rattle.sheet.specs.Rule.{ruleStep, rulesAt}
 use Rattle.sheet.proofs.rule.Laws.{step-got, step-out}
 use Rattle.sheet.proofs.rule.read_rules.Statement.{statement}
 use Rattle.sheet.proofs.rule.read_rules.Tie as tie

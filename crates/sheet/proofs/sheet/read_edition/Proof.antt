@@ -1,7 +1,7 @@
 -- `read_edition` meets its contract: each way through its tests is a case of `editionAt`.
 use borrow.Author.Needs.{needs}
-use Rattle.sheet.specs.Sheet.{editionAt}
 use Rattle.numbers.proofs.Answer.{ways}
+use Rattle.sheet.specs.Sheet.{editionAt}
 use Rattle.sheet.proofs.sheet.read_edition.Statement.{statement}
 use Rattle.sheet.proofs.sheet.read_edition.Tie as tie
 

@@ -1,8 +1,8 @@
 -- `read_rest` meets its contract: the rule count, the rules, and what comes after them.
 use borrow.Author.Needs.{needs}
 use Rattle.rules.specs.Limits.{rulesMost}
-use Rattle.sheet.specs.Sheet.{restAt}
 use Rattle.numbers.proofs.Answer.{ways}
+use Rattle.sheet.specs.Sheet.{restAt}
 use Rattle.sheet.proofs.sheet.read_rest.Statement.{statement}
 use Rattle.sheet.proofs.sheet.read_rest.Tie as tie
 

@@ -1,8 +1,8 @@
 -- `read_sheet` meets its contract: the length first, and then the sheet in reading order.
 use borrow.Author.Needs.{needs}
 use Rattle.rules.specs.Limits.{bytesMost}
-use Rattle.sheet.specs.Sheet.{sheetRead}
 use Rattle.numbers.proofs.Answer.{ways}
+use Rattle.sheet.specs.Sheet.{sheetRead}
 use Rattle.sheet.proofs.sheet.read_sheet.Statement.{statement}
 use Rattle.sheet.proofs.sheet.read_sheet.Tie as tie
 

@@ -1,7 +1,7 @@
 -- `read_tail` meets its contract: two lists, and nothing more.
 use borrow.Author.Needs.{needs}
-use Rattle.sheet.specs.Sheet.{tailAt}
 use Rattle.numbers.proofs.Answer.{ways}
+use Rattle.sheet.specs.Sheet.{tailAt}
 use Rattle.sheet.proofs.sheet.read_tail.Statement.{statement}
 use Rattle.sheet.proofs.sheet.read_tail.Tie as tie
 

@@ -1,8 +1,8 @@
 -- `read_whole` meets its contract: the edition, the atom count, and the rest.
 use borrow.Author.Needs.{needs}
 use Rattle.rules.specs.Limits.{atomsMost}
-use Rattle.sheet.specs.Sheet.{wholeAt}
 use Rattle.numbers.proofs.Answer.{ways}
+use Rattle.sheet.specs.Sheet.{wholeAt}
 use Rattle.sheet.proofs.sheet.read_whole.Statement.{statement}
 use Rattle.sheet.proofs.sheet.read_whole.Tie as tie
 

@@ -1,7 +1,7 @@
 -- `answer` meets its contract: each line is that of the answer that solve gave.
-use Rattle.solve.proofs.Lines.{answered, model-answered}
-use Rattle.rules.specs.Limits.{atomsMost}
 use borrow.Author.Needs.{needs}
+use Rattle.rules.specs.Limits.{atomsMost}
+use Rattle.solve.proofs.Lines.{answered, model-answered}
 use Rattle.solve.proofs.answer.answer.Statement.{statement}
 use Rattle.solve.proofs.answer.answer.Tie as tie
 
@@ -37,7 +37,10 @@ refused-line-requires c κs = search needs
 
 returns : tie.Need-returns
 unfolding atomsMost
-returns c = model-answered _ (c .before .before .before .enum-told .given .1) (c .before .before .before .before .before .before .solve .ensures) (c .before .atoms .ensures) (c .model-line .ensures)
+returns c =
+    let at-enum-told = c .before .before .before in
+    let at-solve = at-enum-told .before .before .before in
+    model-answered _ (at-enum-told .enum-told .given .1) (at-solve .solve .ensures) (c .before .atoms .ensures) (c .model-line .ensures)
 
 returns-2 : tie.Need-returns-2
 unfolding atomsMost

@@ -1,7 +1,7 @@
 -- `atoms` meets its contract: the count of the sheet that was read.
-use Rattle.solve.specs.Answer.{atomsIn}
 use borrow.Author.Needs.{needs}
 use Rattle.sheet.proofs.sheet.Laws.{sheet-ways}
+use Rattle.solve.specs.Answer.{atomsIn}
 use Rattle.solve.proofs.answer.atoms.Statement.{statement}
 use Rattle.solve.proofs.answer.atoms.Tie as tie
 

@@ -1,9 +1,9 @@
 -- `kind_written` meets its contract: its tests are those by which a word is a kind.
-use Rattle.table.specs.inner.Words.{rowWidth}
-use Rattle.table.specs.inner.Rows.{kindAt, kindOf}
+use mathlib.Core.Path.{sym}
 use borrow.Author.Needs.{needs}
 use borrow.Author.Tests.{eq-eqb, ne-eqb}
-use mathlib.Core.Path.{sym}
+use Rattle.table.specs.inner.Words.{rowWidth}
+use Rattle.table.specs.inner.Rows.{kindAt, kindOf}
 use Rattle.table.proofs.parts.kind_written.Statement.{statement}
 use Rattle.table.proofs.parts.kind_written.Tie as tie
 
@@ -26,11 +26,17 @@ returns-2 c = simp (sym (c .before .before .word .ensures), ne-eqb _ _ (c .befor
 
 returns-3 : tie.Need-returns-3
 unfolding kindAt kindOf rowWidth
-returns-3 c = simp (sym (c .before .before .before .word .ensures), ne-eqb _ _ (c .before .before .if1 .left), ne-eqb _ _ (c .before .if2 .left), eq-eqb _ _ (c .if3 .taken))
+returns-3 c =
+    let at-if = c .before .before in
+    let at-word = at-if .before in
+    simp (sym (at-word .word .ensures), ne-eqb _ _ (at-if .if1 .left), ne-eqb _ _ (c .before .if2 .left), eq-eqb _ _ (c .if3 .taken))
 
 returns-4 : tie.Need-returns-4
 unfolding kindAt kindOf rowWidth
-returns-4 c = simp (sym (c .before .before .before .word .ensures), ne-eqb _ _ (c .before .before .if1 .left), ne-eqb _ _ (c .before .if2 .left), ne-eqb _ _ (c .if3 .left))
+returns-4 c =
+    let at-if = c .before .before in
+    let at-word = at-if .before in
+    simp (sym (at-word .word .ensures), ne-eqb _ _ (at-if .if1 .left), ne-eqb _ _ (c .before .if2 .left), ne-eqb _ _ (c .if3 .left))
 
 pub kind-written-spec : {M : Type 1} → statement M
 kind-written-spec =

@@ -1,6 +1,6 @@
 -- `pair_item` meets its contract: the pair stands k places on, where there are more than k.
-use Rattle.table.proofs.parts.Laws.{item-none, weight-there, atom-found}
 use borrow.Author.Needs.{needs}
+use Rattle.table.proofs.parts.Laws.{item-none, weight-there, atom-found}
 use Rattle.table.proofs.parts.pair_item.Statement.{statement}
 use Rattle.table.proofs.parts.pair_item.Tie as tie
 

@@ -1,13 +1,13 @@
 -- `part` meets its contract: each arm is the part of its number.
 use mathlib.Core.Bool.{false, true}
 use mathlib.Core.Path.{ap}
-use Rattle.table.proofs.parts.Laws.{so-many, item-at, so-many-pairs}
 use borrow.Author.Tests.{ne-eqb}
-use Rattle.table.specs.inner.Words.{segColumn}
-use Rattle.rules.specs.Sum.{pick}
 use borrow.Author.Needs.{needs}
-use Rattle.rules.specs.declared.Item.the-variants.{Is}
+use Rattle.rules.specs.Sum.{pick}
 use Rattle.rules.specs.Rule.{partOf}
+use Rattle.rules.specs.declared.Item.the-variants.{Is}
+use Rattle.table.specs.inner.Words.{segColumn}
+use Rattle.table.proofs.parts.Laws.{so-many, item-at, so-many-pairs}
 use Rattle.table.proofs.parts.part.Statement.{statement}
 use Rattle.table.proofs.parts.part.Tie as tie
 

@@ -1,12 +1,12 @@
 -- `hold_atom` meets its contract: what `put` did to the one atom says which maps are above the result.
+use Prim.Native.Nat.{ℕ}
 use mathlib.Core.Path.{sym, subst}
 use mathlib.Core.Bool.{Bool, not}
 use mathlib.Core.List.{[], _∷_}
-use Prim.Native.Nat.{ℕ}
 use borrow.Author.Needs.{needs}
 use denote.Ref.{now}
-use Rattle.weigh.specs.inner.Step.{Puts}
 use Rattle.rules.specs.Map.{signed}
+use Rattle.weigh.specs.inner.Step.{Puts}
 use Rattle.task.specs.inner.Hold.{Takes}
 use Rattle.task.proofs.hold.Laws.{put-takes}
 use Rattle.task.proofs.hold.hold_atom.Statement.{statement}

@@ -1,10 +1,10 @@
 -- `hold_pairs` meets its contract. The invariant: whatever holding the pairs that are left comes to, holding the run comes to.
-use Rattle.rules.specs.Rule.{Within}
+use Prim.Native.Nat.{_-_}
 use mathlib.Core.Path.{subst, sym}
-use Rattle.task.proofs.hold.Laws.{left-next, left-clash, Left, hold-begin, left-end}
 use native.Mathlib.Omega.{arith}
 use borrow.Author.Needs.{needs}
-use Prim.Native.Nat.{_-_}
+use Rattle.rules.specs.Rule.{Within}
+use Rattle.task.proofs.hold.Laws.{left-next, left-clash, Left, hold-begin, left-end}
 use Rattle.task.proofs.hold.hold_pairs.Statement.{statement}
 use Rattle.task.proofs.hold.hold_pairs.Tie as tie
 

@@ -1,7 +1,7 @@
 -- `close_held` meets its contract: the compute lists are held, and then the map closed.
+use borrow.Author.Needs.{needs}
 use Rattle.table.specs.inner.Rows.{tableSheet}
 use Rattle.task.proofs.perform.Laws.{held-closed, held-none}
-use borrow.Author.Needs.{needs}
 use Rattle.task.proofs.perform.close_held.Statement.{statement}
 use Rattle.task.proofs.perform.close_held.Tie as tie
 
@@ -15,7 +15,11 @@ same-length : tie.Need-same-length
 same-length c = search needs
 
 returns : tie.Need-returns
-returns c = held-closed (tableSheet _ _ _) _ (c .before .before .before .before .if1 .taken) (c .before .before .before .before .before .before .before .hold-lists .ensures) _ (c .before .before .close-map .ensures)
+returns c =
+    let at-close-map = c .before .before in
+    let at-if = at-close-map .before .before in
+    let at-hold-lists = at-if .before .before .before in
+    held-closed (tableSheet _ _ _) _ (at-if .if1 .taken) (at-hold-lists .hold-lists .ensures) _ (at-close-map .close-map .ensures)
 
 answer-requires : tie.Need-answer-requires
 answer-requires c κs = search needs

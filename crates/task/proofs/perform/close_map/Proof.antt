@@ -1,6 +1,6 @@
 -- `close_map` meets its contract: its answer is that of `close`.
-use Rattle.task.proofs.perform.Laws.{closed-none, closed-with}
 use borrow.Author.Needs.{needs}
+use Rattle.task.proofs.perform.Laws.{closed-none, closed-with}
 use Rattle.task.proofs.perform.close_map.Statement.{statement}
 use Rattle.task.proofs.perform.close_map.Tie as tie
 
@@ -32,7 +32,10 @@ same-length-2 : tie.Need-same-length-2
 same-length-2 c = search needs
 
 returns-2 : tie.Need-returns-2
-returns-2 c = closed-with _ (c .before .before .before .before .before .before .close .ensures) (c .before .before .undecided .given .1) (c .answer2 .ensures)
+returns-2 c =
+    let at-undecided = c .before .before in
+    let at-close = at-undecided .before .before .before .before in
+    closed-with _ (at-close .close .ensures) (at-undecided .undecided .given .1) (c .answer2 .ensures)
 
 pub close-map-spec : {M : Type 1} → statement M
 close-map-spec =

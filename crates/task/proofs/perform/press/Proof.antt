@@ -1,8 +1,8 @@
 -- `press` meets its contract: the pin is held, and then the map closed.
-use Rattle.task.proofs.hold.Laws.{takes-as}
-use Rattle.table.specs.inner.Rows.{tableSheet}
-use Rattle.task.proofs.perform.Laws.{held-closed, held-none}
 use borrow.Author.Needs.{needs}
+use Rattle.table.specs.inner.Rows.{tableSheet}
+use Rattle.task.proofs.hold.Laws.{takes-as}
+use Rattle.task.proofs.perform.Laws.{held-closed, held-none}
 use Rattle.task.proofs.perform.press.Statement.{statement}
 use Rattle.task.proofs.perform.press.Tie as tie
 
@@ -22,7 +22,12 @@ same-length : tie.Need-same-length
 same-length c = search needs
 
 returns : tie.Need-returns
-returns c = held-closed (tableSheet _ _ _) _ (c .before .before .before .before .if1 .taken) (takes-as (c .before .before .before .before .before .before .before .before .before .number .ensures) (c .before .before .before .before .before .before .before .hold-atom .ensures)) _ (c .before .before .close-map .ensures)
+returns c =
+    let at-close-map = c .before .before in
+    let at-if = at-close-map .before .before in
+    let at-hold-atom = at-if .before .before .before in
+    let at-number = at-hold-atom .before .before in
+    held-closed (tableSheet _ _ _) _ (at-if .if1 .taken) (takes-as (at-number .number .ensures) (at-hold-atom .hold-atom .ensures)) _ (at-close-map .close-map .ensures)
 
 answer-requires : tie.Need-answer-requires
 answer-requires c κs = search needs
@@ -31,7 +36,10 @@ same-length-2 : tie.Need-same-length-2
 same-length-2 c = search needs
 
 returns-2 : tie.Need-returns-2
-returns-2 c = held-none (tableSheet _ _ _) _ (c .before .if1 .left) (takes-as (c .before .before .before .before .before .before .number .ensures) (c .before .before .before .before .hold-atom .ensures)) (c .answer .ensures)
+returns-2 c =
+    let at-hold-atom = c .before .before .before .before in
+    let at-number = at-hold-atom .before .before in
+    held-none (tableSheet _ _ _) _ (c .before .if1 .left) (takes-as (at-number .number .ensures) (at-hold-atom .hold-atom .ensures)) (c .answer .ensures)
 
 pub press-spec : {M : Type 1} → statement M
 press-spec =

@@ -1,12 +1,12 @@
 -- `tell` meets its contract: the rule's row is weighed, or its part is read.
-use Rattle.gate.specs.inner.Fit.{AskFits}
-use Rattle.task.proofs.perform.Laws.{told-margin, told-part, told-nothing}
 use mathlib.Core.Path.{refl, subst, _∙_}
 use native.Mathlib.Omega.{arith}
-use Rattle.rules.specs.Limits.{rulesMost}
 use borrow.Author.Needs.{needs}
 use mir.Syntax.{w64}
 use mir.ValLaws.{toZ-ofZ}
+use Rattle.rules.specs.Limits.{rulesMost}
+use Rattle.gate.specs.inner.Fit.{AskFits}
+use Rattle.task.proofs.perform.Laws.{told-margin, told-part, told-nothing}
 use Rattle.task.proofs.perform.tell.Statement.{statement}
 use Rattle.task.proofs.perform.tell.Tie as tie
 
@@ -24,7 +24,10 @@ enum-told : tie.Need-enum-told
 enum-told c = search needs
 
 margin-requires : tie.Need-margin-requires
-margin-requires c κs = (simp (c .before .before .number .ensures) (c .before .before .before .before .before .pre .row), subst (AskFits _ _) (c .enum-told .given .1) (c .before .before .before .before .before .pre .fits))
+margin-requires c κs =
+    let at-number = c .before .before in
+    let start = at-number .before .before .before in
+    (simp (at-number .number .ensures) (start .pre .row), subst (AskFits _ _) (c .enum-told .given .1) (start .pre .fits))
 
 enum-known-ask : tie.Need-enum-known-ask
 enum-known-ask c = search needs
@@ -45,13 +48,24 @@ answer-requires-2 : tie.Need-answer-requires-2
 answer-requires-2 c κs = search needs
 
 returns : tie.Need-returns
-returns c = told-margin _ _ _ _ _ (c .before .before .before .number .ensures) _ (c .before .enum-told .given .1) refl (toZ-ofZ w64 _ (record { sfits = c .margin .ok }) ∙ c .margin .ensures)
+returns c =
+    let at-number = c .before .before .before in
+    told-margin _ _ _ _ _ (at-number .number .ensures) _ (c .before .enum-told .given .1) refl (toZ-ofZ w64 _ (record { sfits = c .margin .ok }) ∙ c .margin .ensures)
 
 returns-2 : tie.Need-returns-2
-returns-2 c = told-part _ _ _ _ _ (c .before .before .before .before .before .before .before .before .number .ensures) _ _ (c .before .before .before .before .before .before .ask .given .1) (c .before .before .before .before .part .ensures) _ (c .before .before .number2 .given .1) (c .answer .ensures)
+returns-2 c =
+    let at-number = c .before .before in
+    let at-part = at-number .before .before in
+    let at-ask = at-part .before .before in
+    let at-number′ = at-ask .before .before in
+    told-part _ _ _ _ _ (at-number′ .number .ensures) _ _ (at-ask .ask .given .1) (at-part .part .ensures) _ (at-number .number2 .given .1) (c .answer .ensures)
 
 returns-3 : tie.Need-returns-3
-returns-3 c = told-nothing _ _ _ _ _ (c .before .before .before .before .before .before .before .number .ensures) _ _ (c .before .before .before .before .before .ask .given .1) (c .before .before .before .part .ensures) (c .before .enum-told2 .given .1) (c .answer2 .ensures)
+returns-3 c =
+    let at-part = c .before .before .before in
+    let at-ask = at-part .before .before in
+    let at-number = at-ask .before .before in
+    told-nothing _ _ _ _ _ (at-number .number .ensures) _ _ (at-ask .ask .given .1) (at-part .part .ensures) (c .before .enum-told2 .given .1) (c .answer2 .ensures)
 
 pub tell-spec : {M : Type 1} → statement M
 tell-spec =

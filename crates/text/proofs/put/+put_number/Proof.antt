@@ -1,12 +1,12 @@
 -- `put::put_number` meets its contract: a number of one digit is that digit, and any other is the digits before its last, and that.
 -- The measure is the number.
-use Rattle.text.proofs.Lines.{digits-large}
+use Prim.Native.Nat.{ℕ, _<_}
 use mathlib.Core.Path.{sym, _∙_}
 use native.Mathlib.Omega.{arith}
-use Rattle.text.proofs.put.Laws.{retold, then, number-small, number-large, room-retold, room-first, room-after}
-use Prim.Native.Nat.{ℕ, _<_}
 use borrow.Fn.Kinds.{In}
 use borrow.Fn.PlainCycle.{Measures, is, falls, and}
+use Rattle.text.proofs.Lines.{digits-large}
+use Rattle.text.proofs.put.Laws.{retold, then, number-small, number-large, room-retold, room-first, room-after}
 use Rattle.text.proofs.put.put_number.Reads as put-number
 use Rattle.text.proofs.put.put_number.Kinds as put-number-kinds
 use Rattle.text.proofs.put.+put_number.Lts-put_number as put-number-lts

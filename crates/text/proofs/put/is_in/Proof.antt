@@ -1,8 +1,8 @@
 -- `put::is_in` meets its contract: past the end of the map the byte counts as 0.
-use denote.Ref.{now}
 use Prim.Native.Nat.{ℕ}
 use lib.ListN.{List·getD-eq-default}
 use borrow.Author.Needs.{needs}
+use denote.Ref.{now}
 use Rattle.text.proofs.put.is_in.Statement.{statement}
 use Rattle.text.proofs.put.is_in.Tie as tie
 

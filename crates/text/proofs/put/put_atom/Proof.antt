@@ -1,8 +1,8 @@
 -- `put::put_atom` meets its contract: an atom that is in is put after a space, and nothing otherwise.
-use denote.Ref.{now}
 use mathlib.Core.Path.{sym, ap, _∙_}
 use native.Mathlib.Omega.{arith}
 use native.Mathlib.Numerals.{add-one}
+use denote.Ref.{now}
 use Rattle.text.specs.Line.{spaced}
 use Rattle.text.proofs.put.Laws.{put-none, retold, room-retold, in-within, atom-in, atom-out}
 use Rattle.text.proofs.put.put_atom.Statement.{statement}

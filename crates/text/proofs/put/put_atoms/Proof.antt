@@ -1,8 +1,8 @@
 -- `put::put_atoms` meets its contract: the in-atoms among 1 to `i` stand after the first `len`, and `next` is after them.
-use denote.Ref.{now}
 use Prim.Native.Nat.{ℕ, _≤_, _-_}
 use mathlib.Core.Path.{_≡_, ap}
 use native.Mathlib.Omega.{arith}
+use denote.Ref.{now}
 use Rattle.text.specs.Line.{spacedAll, inAtoms}
 use Rattle.text.specs.inner.Put.{Appends}
 use Rattle.text.proofs.put.Laws.{put-none, retold, atoms-more, atoms-room}

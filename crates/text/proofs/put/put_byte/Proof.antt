@@ -1,6 +1,6 @@
 -- `put::put_byte` meets its contract: a store at `len` is the text after the first `len` bytes.
-use denote.Ref.{now}
 use borrow.Author.Needs.{needs}
+use denote.Ref.{now}
 use Rattle.text.proofs.put.Laws.{put-one}
 use Rattle.text.proofs.put.put_byte.Statement.{statement}
 use Rattle.text.proofs.put.put_byte.Tie as tie

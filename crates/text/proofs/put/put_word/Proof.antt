@@ -1,9 +1,9 @@
 -- `put::put_word` meets its contract: the first `i` bytes of the word stand after the first `len`, and `next` is after them.
-use denote.Ref.{now}
 use Prim.Native.Nat.{_≤_, _-_}
 use native.Mathlib.Omega.{arith}
 use lib.ListN.{length, take}
 use lib.Seq.{take-all}
+use denote.Ref.{now}
 use Rattle.text.specs.inner.Put.{Appends}
 use Rattle.text.proofs.put.Laws.{put-none, retold, word-more, word-room}
 use Rattle.text.proofs.put.put_word.Statement.{statement}

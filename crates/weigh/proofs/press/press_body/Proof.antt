@@ -1,7 +1,7 @@
 -- `weigh::press::press_body`: the two runs of literals, each pressed, are the rule's body.
-use borrow.Author.Needs.{needs}
 use mathlib.Core.Path.{sym, subst}
 use mathlib.Core.Bool.{true, false, not}
+use borrow.Author.Needs.{needs}
 use denote.Ref.{now}
 use Rattle.weigh.specs.inner.Step.{Decided}
 use Rattle.weigh.proofs.Presses.{want-sided, body-pressed}

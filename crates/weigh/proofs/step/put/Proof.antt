@@ -1,6 +1,6 @@
 -- `weigh::step::put`: the byte read is the atom's side, and the byte written is its only change.
-use borrow.Author.Needs.{needs}
 use mathlib.Core.Path.{refl, sym, _∙_}
+use borrow.Author.Needs.{needs}
 use denote.Ref.{now}
 use Rattle.rules.proofs.Bytes.{side-at}
 use Rattle.weigh.proofs.step.put.Statement.{statement}
