@@ -41,7 +41,7 @@ use Rattle.sheet.specs.declared.SheetRead.the-variants.{Accepted}
 use Rattle.sheet.proofs.sheet.Ran.{sheet-ran}
 use Rattle.sheet.proofs.Accepted.{outlined}
 use Rattle.gate.specs.Scan.{isContradiction}
-use Rattle.gate.specs.Gate.{openGate, pinGate, solveGate}
+use Rattle.gate.specs.Gate.{openGate, pinGate, solveGate, isPin}
 use Rattle.gate.specs.declared.Task.the-variants.{Stay, Open, Pin, Solve}
 use Rattle.gate.specs.declared.Gate.{Gate}
 use Rattle.gate.specs.declared.Gate.the-variants.{Go}
@@ -120,8 +120,7 @@ pin-on =
     (lent afterOpen refl)
     2
     1
-    (record { low = omega arith; high = omega (arith, three) })
-    (record { low = omega arith; high = omega arith })
+    (ap (λ (n : ℕ). isPin n 2 1) three)
     (map-none (o .atoms) afterOpen small-bytes)
     ∙ ap
     (λ (b : Bool). Go o (pick b Stay (Pin (record { number = 2 }) true)))

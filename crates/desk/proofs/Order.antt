@@ -2,14 +2,14 @@
 -- accepted pins so far, on the map that was first lent. What is asked sees neither the order of the rules nor that of the pins, and the
 -- end of a question is tight: so two such runs end in the same bytes, with the same answer.
 use Prim.Native.Nat.{ℕ, _≤_, _<_}
-use mathlib.Core.Path.{_≡_, refl, sym, _∙_, ap, subst, ap₂}
-use mathlib.Core.Bool.{Bool, true, false, _&&_, true≢false}
+use mathlib.Core.Path.{_≡_, refl, sym, _∙_, ap, subst}
+use mathlib.Core.Bool.{Bool, true, false}
 use mathlib.Core.List.{List, [], _∷_, _++_, append-assoc, append-nil}
 use native.Mathlib.Omega.{arith}
 use lib.ListN.{length, getD, replicate}
 use lib.Dec.{eqb}
 use Rattle.rules.specs.Sum.{pick}
-use Rattle.rules.specs.Rule.{Sheet, Within, Shuffled}
+use Rattle.rules.specs.Rule.{Sheet, Shuffled}
 use Rattle.rules.specs.inner.Fits.{Numbered}
 use Rattle.rules.specs.Stable.{Set, Model}
 use Rattle.rules.specs.Map.{Map, Literal, Holding, Written, inside, side, signed, total, _⊑_, undecided}
@@ -18,8 +18,8 @@ use Rattle.rules.proofs.Least.{least-same, contradiction-same, holding-left, ho
 use Rattle.rules.proofs.Models.{loses-none, none-lost}
 use Rattle.rules.proofs.Shuffle.{least-shuffled, contradiction-shuffled}
 use Rattle.rules.proofs.Bytes.{map-side, written-trans}
-use Rattle.rules.proofs.Tests.{T-and-left, T-and-right, true-T}
-use Rattle.rules.proofs.Inside.{inside-within, inside-true}
+use Rattle.rules.proofs.Tests.{T-and-left, true-T}
+use Rattle.rules.proofs.Inside.{inside-within}
 use Rattle.numbers.specs.Answer.{refusal}
 use Rattle.numbers.specs.declared.Refusal.{Refusal}
 use Rattle.sheet.specs.Sheet.{sheetRead}
@@ -28,7 +28,7 @@ use Rattle.sheet.specs.declared.Outline.{Outline}
 use Rattle.sheet.specs.declared.SheetRead.the-variants.{Accepted}
 use Rattle.sheet.proofs.Accepted.{outlined, numbered}
 use Rattle.gate.specs.Scan.{isContradiction, mapFault}
-use Rattle.gate.specs.Gate.{pinGate}
+use Rattle.gate.specs.Gate.{isPin, pinGate}
 use Rattle.gate.specs.declared.Task.{Task}
 use Rattle.gate.specs.declared.Gate.{Gate}
 use Rattle.gate.specs.declared.Gate.the-variants.{Go}
@@ -92,7 +92,7 @@ module _ (s : List ℕ) (o : Outline) (is : sheetRead s ≡ Accepted o) (l : Lis
     p = signed (eqb v 1) a
 
     abbrev passes : Bool
-    passes = inside n a && inside 2 v
+    passes = isPin n a v
 
     -- a refused pin
     refused-pin :
@@ -104,13 +104,10 @@ module _ (s : List ℕ) (o : Outline) (is : sheetRead s ≡ Accepted o) (l : Lis
         s
         (λ why. (r₁ ≡ RefusedMap why) × (m′ ≡ m))
         (λ x. PinEnds (isContradiction (x .atoms) m) x m a v m′ r₁)
-        (pins-barred (record { accepted = is; room = state-room ps m r st }) a v barred)
+        (pins-barred (record { accepted = is; room = state-room ps m r st }) a v e)
         (q .promise)
         in
         subst (λ (x : List ℕ). State ps x (latest r r₁)) (sym (stop .1)) (subst (State ps m) (sym (ap (latest r) (stop .0))) st)
-      where
-        barred : Within n a → Within 2 v → ⊥
-        barred w d = true≢false (sym (ap₂ _&&_ (inside-true w) (inside-true d)) ∙ e)
 
     -- an accepted one, on a map without a fault
     accepted-pin :
@@ -122,13 +119,7 @@ module _ (s : List ℕ) (o : Outline) (is : sheetRead s ≡ Accepted o) (l : Lis
         s
         (λ why. (r₁ ≡ RefusedMap why) × (m′ ≡ m))
         (λ x. PinEnds (isContradiction (x .atoms) m) x m a v m′ r₁)
-        (pins-through
-        (record { accepted = is; room = room })
-        a
-        v
-        (inside-within n a (T-and-left (inside n a) (inside 2 v) (true-T e)))
-        (inside-within 2 v (T-and-right (inside n a) (inside 2 v) (true-T e)))
-        f)
+        (pins-through (record { accepted = is; room = room }) a v e f)
         (q .promise)
 
     -- the pins so far and the new one
@@ -218,7 +209,7 @@ module _ (s : List ℕ) (o : Outline) (is : sheetRead s ≡ Accepted o) (l : Lis
   pinned-state qs {m′ = m′} {r′ = r′} st done = subst (λ (x : List Literal). State x m′ r′) (sym (append-nil qs)) st
   pinned-state qs {m = m} {r = r} {m′ = m′} {r′ = r′} st (next {m₁ = m₁} {r₁ = r₁} {p = p} {ps = ps} q run) =
       step
-      (inside n (p .atom) && inside 2 (p .side))
+      (isPin n (p .atom) (p .side))
       refl
       (λ st′. pinned-state qs st′ run)
       (λ st′. pinned-state (qs ++ (signed (eqb (p .side) 1) (p .atom) ∷ [])) st′ run)
@@ -227,7 +218,7 @@ module _ (s : List ℕ) (o : Outline) (is : sheetRead s ≡ Accepted o) (l : Lis
       x = signed (eqb (p .side) 1) (p .atom)
 
       step :
-          (b : Bool) → (inside n (p .atom) && inside 2 (p .side)) ≡ b
+          (b : Bool) → (isPin n (p .atom) (p .side)) ≡ b
           → (State qs m₁ (latest r r₁) → State (qs ++ acceptedOf n ps) m′ r′)
           → (State (qs ++ (x ∷ [])) m₁ (latest r r₁) → State (qs ++ (x ∷ []) ++ acceptedOf n ps) m′ r′)
           → State (qs ++ pick b (x ∷ acceptedOf n ps) (acceptedOf n ps)) m′ r′

@@ -4,14 +4,14 @@
 -- Where a run ends is said by Promise.antt's `Ends`: where one open would that asked for the compute lists and the pins at once.
 use Prim.Native.Nat.{ℕ, _≤_}
 use mathlib.Core.Path.{_≡_}
-use mathlib.Core.Bool.{_&&_}
 use mathlib.Core.List.{List, [], _∷_}
 use lib.ListN.{length}
 use lib.Dec.{eqb}
 use Rattle.rules.specs.Sum.{pick}
 use Rattle.rules.specs.Rule.{Sheet}
-use Rattle.rules.specs.Map.{Literal, inside, side, signed}
+use Rattle.rules.specs.Map.{Literal, signed}
 use Rattle.sheet.specs.Meaning.{accepted, sheetOf}
+use Rattle.gate.specs.Gate.{isPin}
 use Rattle.desk.specs.Promise.{Opens, Pins}
 use Rattle.desk.specs.declared.Opened.{Opened}
 use Rattle.desk.specs.declared.Opened.the-variants.{Closed as ClosedWith, Contradiction as Contradicted, Refused as RefusedMap}
@@ -25,7 +25,7 @@ pub record Pin : Type 0 where
 unfoldable pub acceptedOf : ℕ → List Pin → List Literal
 acceptedOf n [] = []
 acceptedOf n (p ∷ ps) =
-    pick (inside n (p .atom) && inside 2 (p .side)) (signed (eqb (p .side) 1) (p .atom) ∷ acceptedOf n ps) (acceptedOf n ps)
+    pick (isPin n (p .atom) (p .side)) (signed (eqb (p .side) 1) (p .atom) ∷ acceptedOf n ps) (acceptedOf n ps)
 
 -- the latest answer that is no refusal
 abbrev pub latest : Opened → Opened → Opened

@@ -3,22 +3,20 @@ use Prim.Native.Nat.{ℕ, _≤_}
 use mathlib.Core.Path.{_≡_, refl, sym, _∙_, ap, subst}
 use mathlib.Core.Bool.{Bool, true, false}
 use mathlib.Core.List.{List}
-use mathlib.Core.Logic.{⊎-elim}
 use native.Mathlib.Omega.{arith}
 use lib.ListN.{length}
 use lib.Dec.{eqb}
-use borrow.Author.Tests.{le-ltb, eq-eqb, ne-eqb, eqb-false}
+use borrow.Author.Tests.{le-ltb}
 use Rattle.rules.specs.Sum.{pick}
 use Rattle.rules.specs.Rule.{Within}
 use Rattle.rules.specs.Map.{Whole}
 use Rattle.rules.specs.inner.Bytes.{Room}
-use Rattle.rules.proofs.Inside.{atom-made, no-atom-made, within?}
-use Rattle.numbers.specs.Answer.{refusal, atomThen}
+use Rattle.numbers.specs.Answer.{refusal}
 use Rattle.sheet.specs.Sheet.{sheetRead, sheetThen}
 use Rattle.sheet.specs.declared.Outline.{Outline}
 use Rattle.sheet.specs.declared.SheetRead.the-variants.{Accepted}
 use Rattle.gate.specs.Scan.{isContradiction, mapFault}
-use Rattle.gate.specs.Gate.{openGate, thenRoom, solveGate, testGate, pinGate, marginGate, partGate, sheetGate, thenStay, goThen, thenMap, thenPin}
+use Rattle.gate.specs.Gate.{openGate, thenRoom, solveGate, testGate, pinGate, marginGate, partGate, sheetGate, thenStay, goThen, thenMap, thenPin, isPin}
 use Rattle.gate.specs.inner.Fit.{TaskFits, Fit, GateFits}
 use Rattle.gate.specs.declared.Ask.{Ask}
 use Rattle.gate.specs.declared.Ask.the-variants.{Margin, Part}
@@ -174,50 +172,23 @@ module _ {s m : List ℕ} {o : Outline} (lent : Lent s m o) where
 
     -- a pin on a map without a fault
     pub pins-through :
-        Within (o .atoms) a → Within 2 v → mapFault (o .atoms) m ≡ o .atoms
+        isPin (o .atoms) a v ≡ true → mapFault (o .atoms) m ≡ o .atoms
         → pinGate s m a v ≡ Go o (pick (isContradiction (o .atoms) m) Stay (Pin (record { number = a }) (eqb v 1)))
-    unfolding thenPin thenMap thenStay goThen atomThen pick
-    pins-through w d e =
+    unfolding thenPin thenMap thenStay goThen pick
+    pins-through b e =
         pin-after
-        ∙ ap (λ (g : Gate). thenStay (thenMap g m) m) (made ∙ sided (eqb v 1) refl)
-        ∙ ap (λ (g : Gate). thenStay g m) (allowed (Pin (record { number = a }) (eqb v 1)))
+        ∙ ap (λ (x : Bool). thenStay (thenMap (pick x (Go o (Pin (record { number = a }) (eqb v 1))) (Stop (refusal 11 0))) m) m) b
+        ∙ ap (λ (x : Bool). thenStay (pick x (Stop (refusal 12 (mapFault (o .atoms) m))) (Go o (Pin (record { number = a }) (eqb v 1)))) m)
+        (le-ltb (mapFault (o .atoms) m) (o .atoms) (omega (arith, e)))
         ∙ stays (isContradiction (o .atoms) m) (Pin (record { number = a }) (eqb v 1))
       where
-        made :
-            thenPin (Go o Stay) a v
-            ≡ pick
-            (eqb v 1)
-            (Go o (Pin (record { number = a }) true))
-            (pick (eqb v 2) (Go o (Pin (record { number = a }) false)) (Stop (refusal 11 0)))
-        made = simp (atom-made (o .atoms) a w)
-
-        sided :
-            (b : Bool) → eqb v 1 ≡ b
-            → pick b (Go o (Pin (record { number = a }) true)) (pick (eqb v 2) (Go o (Pin (record { number = a }) false)) (Stop (refusal 11 0)))
-            ≡ Go o (Pin (record { number = a }) b)
-        sided true h = refl
-        sided false h =
-            simp (eq-eqb v 2 (omega (arith, d .low, d .high, eqb-false v 1 h)))
-
-        allowed : (t : Task) → thenMap (Go o t) m ≡ Go o t
-        allowed t = simp (le-ltb (mapFault (o .atoms) m) (o .atoms) (omega (arith, e)))
-
         stays : (b : Bool) (t : Task) → pick b (Go o Stay) (Go o t) ≡ Go o (pick b Stay t)
         stays true t = refl
         stays false t = refl
 
     -- 11
-    pub pins-barred : (Within (o .atoms) a → Within 2 v → ⊥) → pinGate s m a v ≡ Stop (refusal 11 0)
-    unfolding thenPin thenMap thenStay goThen atomThen pick
-    pins-barred f = pin-after ∙ ap (λ (g : Gate). thenStay (thenMap g m) m) (⊎-elim barred other (within? (o .atoms) a))
-      where
-        barred : Within (o .atoms) a → thenPin (Go o Stay) a v ≡ Stop (refusal 11 0)
-        barred w =
-            simp (
-              atom-made (o .atoms) a w,
-              ne-eqb v 1 (λ e. f w (record { low = omega (arith, e); high = omega (arith, e) })),
-              ne-eqb v 2 (λ e. f w (record { low = omega (arith, e); high = omega (arith, e) })),
-            )
-
-        other : (Within (o .atoms) a → ⊥) → thenPin (Go o Stay) a v ≡ Stop (refusal 11 0)
-        other none = simp (no-atom-made (o .atoms) a none)
+    pub pins-barred : isPin (o .atoms) a v ≡ false → pinGate s m a v ≡ Stop (refusal 11 0)
+    unfolding thenPin thenMap thenStay goThen pick
+    pins-barred b =
+        pin-after
+        ∙ ap (λ (x : Bool). thenStay (thenMap (pick x (Go o (Pin (record { number = a }) (eqb v 1))) (Stop (refusal 11 0))) m) m) b

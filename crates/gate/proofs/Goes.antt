@@ -7,25 +7,21 @@ use native.Mathlib.Omega.{arith}
 use lib.ListN.{length}
 use lib.Dec.{ltb, eqb}
 use borrow.Author.Tests.{ltb-false}
-use Rattle.rules.specs.Number.{checkedAtom, checkedRule}
 use Rattle.rules.specs.Rule.{Within}
+use Rattle.rules.specs.Map.{inside}
 use Rattle.rules.specs.Sum.{pick}
 use Rattle.rules.specs.inner.Bytes.{Room}
-use Rattle.rules.specs.declared.RuleNo.{RuleNo}
-use Rattle.rules.specs.declared.Atom.{Atom}
-use Rattle.rules.specs.declared.RuleOr.{RuleOr}
-use Rattle.rules.specs.declared.RuleOr.the-variants.{Is, Not}
-use Rattle.rules.proofs.Inside.{atom-is, rule-is}
-use Rattle.rules.proofs.Tests.{T-eq, true-T}
+use Rattle.rules.proofs.Inside.{inside-within}
+use Rattle.rules.proofs.Tests.{T-and-left, T-and-right, true-T}
 use Rattle.numbers.specs.Answer.{refusal}
 use Rattle.numbers.specs.declared.Refusal.{Refusal}
-use Rattle.numbers.proofs.Answer.{from-no, from-atom}
+use Rattle.numbers.proofs.Answer.{from-yes, from-no}
 use Rattle.sheet.specs.Sheet.{sheetRead, sheetThen}
 use Rattle.sheet.specs.declared.Outline.{Outline}
 use Rattle.sheet.specs.declared.SheetRead.{SheetRead}
 use Rattle.sheet.specs.declared.SheetRead.the-variants.{Accepted, Refused}
 use Rattle.gate.specs.Scan.{isContradiction, mapFault, modelFault}
-use Rattle.gate.specs.Gate.{goThen, sheetGate, thenRoom, thenMap, thenModel, thenMargin, thenStay, thenPin, thenRule, ruleNoThen}
+use Rattle.gate.specs.Gate.{goThen, sheetGate, thenRoom, thenMap, thenModel, thenMargin, thenStay, thenPin, thenRule, isPin}
 use Rattle.gate.specs.declared.Ask.{Ask}
 use Rattle.gate.specs.declared.Task.{Task}
 use Rattle.gate.specs.declared.Task.the-variants.{Stay, Pin, Rule}
@@ -109,41 +105,28 @@ module _ {o : Outline} {t : Task} where
   pub pin-goes :
       (g : Gate) (a v : ℕ) → thenPin g a v ≡ Go o t
       → (task : Task) × (g ≡ Go o task) × Within (o .atoms) a × Within 2 v × (t ≡ Pin (record { number = a }) (eqb v 1))
-  unfolding thenPin pick
+  unfolding thenPin
   pin-goes g a v e =
       let (y, task, h, k) = from-go g _ e in
-      let (x, i, l) = from-atom _ _ (checkedAtom (y .atoms) a) (stop-go _) k in
-      let (w, j) = atom-is (y .atoms) a x i in
-      let (p, u, z) = side-goes y x (eqb v 1) (eqb v 2) refl refl l in
-      (task, h ∙ ap (λ (x : Outline). Go x task) p, subst (λ (x : Outline). Within (x .atoms) a) p w, u, z ∙ ap (λ (x : Atom). Pin x (eqb v 1)) (sym j))
-    where
-      side-goes :
-          (y : Outline) (x : Atom) (b c : Bool) → eqb v 1 ≡ b → eqb v 2 ≡ c
-          → pick b (Go y (Pin x true)) (pick c (Go y (Pin x false)) (Stop (refusal 11 0))) ≡ Go o t
-          → (y ≡ o) × Within 2 v × (t ≡ Pin x (eqb v 1))
-      side-goes y x true c h k e = (
-        same-outline e,
-        subst (λ (i : ℕ). Within 2 i) (sym (T-eq (true-T h))) (record { low = omega arith; high = omega arith }),
-        sym (same-task e) ∙ ap (λ (b : Bool). Pin x b) (sym h),
+      let (b, z) = from-yes (isPin (y .atoms) a v) _ _ (stop-go _) k in
+      let p = same-outline z in (
+        task,
+        h ∙ ap (λ (x : Outline). Go x task) p,
+        subst (λ (x : Outline). Within (x .atoms) a) p (inside-within (y .atoms) a (T-and-left (inside (y .atoms) a) (inside 2 v) (true-T b))),
+        inside-within 2 v (T-and-right (inside (y .atoms) a) (inside 2 v) (true-T b)),
+        sym (same-task z),
       )
-      side-goes y x false true h k e = (
-        same-outline e,
-        subst (λ (i : ℕ). Within 2 i) (sym (T-eq (true-T k))) (record { low = omega arith; high = omega arith }),
-        sym (same-task e) ∙ ap (λ (b : Bool). Pin x b) (sym h),
-      )
-      side-goes y x false false h k e = absurd (stop-go _ e)
 
   pub rule-goes :
       (g : Gate) (k : ℕ) (ask : Ask) → thenRule g k ask ≡ Go o t
       → (task : Task) × (g ≡ Go o task) × Within (o .rules .value) k × (t ≡ Rule (record { number = k }) ask)
-  unfolding thenRule ruleNoThen
+  unfolding thenRule
   rule-goes g k ask e =
       let (y, task, h, l) = from-go g _ e in
-      let (rule, i, z) = from-rule y (checkedRule (y .rules .value) k) l in
-      let (w, j) = rule-is (y .rules .value) k rule i in
-      let p = same-outline z in
-      (task, h ∙ ap (λ (x : Outline). Go x task) p, subst (λ (x : Outline). Within (x .rules .value) k) p w, sym (same-task z) ∙ ap (λ (x : RuleNo). Rule x ask) (sym j))
-    where
-      from-rule : (y : Outline) (r : RuleOr) → ruleNoThen (Stop (refusal 13 0)) r (λ x. Go y (Rule x ask)) ≡ Go o t → (rule : RuleNo) × (r ≡ Is rule) × (Go y (Rule rule ask) ≡ Go o t)
-      from-rule y (Is rule) e = (rule, refl, e)
-      from-rule y Not e = absurd (stop-go _ e)
+      let (b, z) = from-yes (inside (y .rules .value) k) _ _ (stop-go _) l in
+      let p = same-outline z in (
+        task,
+        h ∙ ap (λ (x : Outline). Go x task) p,
+        subst (λ (x : Outline). Within (x .rules .value) k) p (inside-within (y .rules .value) k (true-T b)),
+        sym (same-task z),
+      )

@@ -5,15 +5,13 @@ use mathlib.Core.Path.{_≡_, refl}
 use mathlib.Core.Bool.{Bool}
 use mathlib.Core.List.{List}
 use native.Mathlib.Omega.{arith}
-use lib.Dec.{ltb, eqb}
+use lib.Dec.{ltb}
 use borrow.Author.Tests.{ltb-true}
 use Rattle.rules.specs.Sum.{pick}
+use Rattle.rules.specs.Map.{inside}
 use Rattle.rules.specs.Limits.{atomsMost, bytesMost, highestRefusal}
-use Rattle.rules.specs.Number.{checkedAtom, checkedRule}
-use Rattle.rules.specs.declared.RuleOr.{RuleOr}
-use Rattle.rules.specs.declared.RuleOr.the-variants.{Is, Not}
 use Rattle.numbers.specs.Answer.{refusal}
-use Rattle.numbers.proofs.Places.{Placed, placed, pick-so, atom-so}
+use Rattle.numbers.proofs.Places.{Placed, placed, pick-so}
 use Rattle.sheet.specs.Sheet.{sheetRead, sheetThen}
 use Rattle.sheet.specs.Meaning.{sheetMeant}
 use Rattle.sheet.specs.declared.Outline.{Outline}
@@ -22,8 +20,8 @@ use Rattle.sheet.specs.declared.SheetRead.the-variants.{Accepted, Refused}
 use Rattle.sheet.proofs.Places.{refused-small}
 use Rattle.sheet.proofs.sheet.Ran.{sheet-ran}
 use Rattle.gate.specs.Scan.{isContradiction, mapFault, modelFault}
-use Rattle.gate.specs.Gate.{goThen, ruleNoThen, orFault, sheetGate, thenRoom, thenPin, thenRule, thenMap, thenModel, thenMargin, thenStay, openGate, solveGate, testGate, pinGate, marginGate, partGate}
-use Rattle.gate.specs.declared.Task.the-variants.{Rule, Solve, Test, Stay, Open}
+use Rattle.gate.specs.Gate.{goThen, isPin, orFault, sheetGate, thenRoom, thenPin, thenRule, thenMap, thenModel, thenMargin, thenStay, openGate, solveGate, testGate, pinGate, marginGate, partGate}
+use Rattle.gate.specs.declared.Task.the-variants.{Solve, Test, Stay, Open}
 use Rattle.gate.specs.declared.Ask.the-variants.{Part, Margin}
 use Rattle.gate.specs.declared.Ask.{Ask}
 use Rattle.gate.specs.declared.Task.{Task}
@@ -68,17 +66,13 @@ module _ (g : Gate) (small : StopsPlaced g) where
   unfolding thenPin
   pin-small a v =
       then-small g _ small
-      (λ o t few. atom-so StopsPlaced _ (checkedAtom (o .atoms) a) _ (placed 11 0 (omega arith) (omega arith))
-      (λ atom. pick-so StopsPlaced (eqb v 1) _ _ (λ _. few)
-      (λ _. pick-so StopsPlaced (eqb v 2) _ _ (λ _. few) (λ _. placed 11 0 (omega arith) (omega arith)))))
+      (λ o t few. pick-so StopsPlaced (isPin (o .atoms) a v) _ _ (λ _. few) (λ _. placed 11 0 (omega arith) (omega arith)))
 
   rule-small : (k : ℕ) (ask : Ask) → StopsPlaced (thenRule g k ask)
-  unfolding thenRule ruleNoThen
-  rule-small k ask = then-small g _ small (λ o t few. by o few (checkedRule (o .rules .value) k))
-    where
-      by : (o : Outline) → o .atoms ≤ atomsMost → (r : RuleOr) → StopsPlaced (ruleNoThen (Stop (refusal 13 0)) r (λ rule. Go o (Rule rule ask)))
-      by o few (Is rule) = few
-      by o few Not = placed 13 0 (omega arith) (omega arith)
+  unfolding thenRule
+  rule-small k ask =
+      then-small g _ small
+      (λ o t few. pick-so StopsPlaced (inside (o .rules .value) k) _ _ (λ _. few) (λ _. placed 13 0 (omega arith) (omega arith)))
 
   map-small : (m : List ℕ) → StopsPlaced (thenMap g m)
   unfolding thenMap

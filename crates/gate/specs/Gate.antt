@@ -1,16 +1,13 @@
 -- "Each returns its number and a place. Number 9 is tested first, then the sheet in reading order, then 10, 11, 13, 12, 14, as far as the
 -- call has such an input." What stops a call, or the sheet and the task on which it goes on.
 use Prim.Native.Nat.{ℕ}
-use mathlib.Core.Bool.{true, false}
+use mathlib.Core.Bool.{Bool, _&&_}
 use mathlib.Core.List.{List}
 use lib.ListN.{length}
 use lib.Dec.{ltb, eqb}
 use Rattle.rules.specs.Sum.{pick}
-use Rattle.rules.specs.Number.{checkedAtom, checkedRule}
-use Rattle.rules.specs.declared.RuleNo.{RuleNo}
-use Rattle.rules.specs.declared.RuleOr.{RuleOr}
-use Rattle.rules.specs.declared.RuleOr.the-variants.{Is, Not}
-use Rattle.numbers.specs.Answer.{refusal, atomThen}
+use Rattle.rules.specs.Map.{inside}
+use Rattle.numbers.specs.Answer.{refusal}
 use Rattle.sheet.specs.Sheet.{sheetRead, sheetThen}
 use Rattle.sheet.specs.declared.Outline.{Outline}
 use Rattle.gate.specs.Scan.{mapFault, modelFault, isContradiction}
@@ -26,11 +23,6 @@ unfoldable pub goThen : Gate → (Outline → Task → Gate) → Gate
 goThen (Stop why) next = Stop why
 goThen (Go o task) next = next o task
 
--- what comes after a rule's number, and the other where the number is no rule's
-unfoldable pub ruleNoThen : Gate → RuleOr → (RuleNo → Gate) → Gate
-ruleNoThen other (Is rule) next = next rule
-ruleNoThen other Not next = other
-
 -- the sheet's own refusals
 unfoldable pub sheetGate : List ℕ → Task → Gate
 sheetGate s task = sheetThen Stop (sheetRead s) (λ o. Go o task)
@@ -39,17 +31,19 @@ sheetGate s task = sheetThen Stop (sheetRead s) (λ o. Go o task)
 unfoldable pub thenRoom : Gate → List ℕ → Gate
 thenRoom g m = goThen g (λ o task. pick (ltb (length m) (o .atoms)) (Stop (refusal 10 0)) (Go o task))
 
+-- an atom of 1 to n, and side 1 or 2
+abbrev pub isPin : ℕ → ℕ → ℕ → Bool
+isPin n a v = inside n a && inside 2 v
+
 -- 11: "pinned atom 0 or above n, or side not 1 or 2", at 0; 1 is in and 2 is out
 unfoldable pub thenPin : Gate → ℕ → ℕ → Gate
 thenPin g a v =
-    goThen g
-    (λ o task. atomThen (Stop (refusal 11 0)) (checkedAtom (o .atoms) a)
-    (λ atom. pick (eqb v 1) (Go o (Pin atom true)) (pick (eqb v 2) (Go o (Pin atom false)) (Stop (refusal 11 0)))))
+    goThen g (λ o task. pick (isPin (o .atoms) a v) (Go o (Pin (record { number = a }) (eqb v 1))) (Stop (refusal 11 0)))
 
 -- 13: "rule number 0 or above the rule count", at 0
 unfoldable pub thenRule : Gate → ℕ → Ask → Gate
 thenRule g k ask =
-    goThen g (λ o task. ruleNoThen (Stop (refusal 13 0)) (checkedRule (o .rules .value) k) (λ rule. Go o (Rule rule ask)))
+    goThen g (λ o task. pick (inside (o .rules .value) k) (Go o (Rule (record { number = k }) ask)) (Stop (refusal 13 0)))
 
 -- 12: "map byte not allowed", at its index
 abbrev pub orFault : ℕ → ℕ → Gate → Gate

@@ -1,7 +1,7 @@
 -- A map held in bytes: atom a at index a - 1. Writing a side to an undecided atom's byte gives the map that is above the old one
 -- and below every map above the old one that has the atom on that side. Two lists that agree on the map and past it are equal.
 use Prim.Native.Nat.{ℕ, _+_, _-_, _≤_, _<_}
-use mathlib.Core.Path.{_≡_, refl, sym, _∙_, ap}
+use mathlib.Core.Path.{_≡_, sym, _∙_, ap}
 use mathlib.Core.Logic.{⊎-elim}
 use mathlib.Core.Bool.{Bool, true, false, not, cond}
 use mathlib.Core.List.{List, [], _∷_}
@@ -169,9 +169,6 @@ undecided-same n m m′ h h′ e = ap (λ (l : List ℕ). tally (λ b. eqb b 0) 
         getD-take n m i 0 k ∙ e i k ∙ sym (getD-take n m′ i 0 k))
 
 -- what is written past n, after one call and then another
-pub written-refl : {n : ℕ} {m : List ℕ} → Written n m m
-written-refl = record { long = refl; past = refl }
-
 pub written-trans : {n : ℕ} {m m′ m″ : List ℕ} → Written n m m′ → Written n m′ m″ → Written n m m″
 written-trans w w′ = record { long = w′ .long ∙ w .long; past = w′ .past ∙ w .past }
 

@@ -48,10 +48,6 @@ pub atom-made : (n a : ℕ) → Within n a → checkedAtom n a ≡ Is (record { 
 unfolding checkedAtom pick
 atom-made n a w = ap (λ (b : Bool). pick b (Is (record { number = a })) Not) (inside-true w)
 
-pub no-atom-made : (n a : ℕ) → (Within n a → ⊥) → checkedAtom n a ≡ Not
-unfolding checkedAtom pick
-no-atom-made n a w = ap (λ (b : Bool). pick b (Is (record { number = a })) Not) (inside-false w)
-
 pub rule-is : (n k : ℕ) (rule : RuleNo) → checkedRule n k ≡ IsRule rule → Within n k × (_≡_ {A = RuleNo} (record { number = k }) rule)
 unfolding checkedRule pick
 rule-is n k rule e = by (inside n k) refl e
@@ -63,3 +59,10 @@ rule-is n k rule e = by (inside n k) refl e
 pub rule-made : (n k : ℕ) → Within n k → checkedRule n k ≡ IsRule (record { number = k })
 unfolding checkedRule pick
 rule-made n k w = ap (λ (b : Bool). pick b (IsRule (record { number = k })) NotRule) (inside-true w)
+
+-- and no number of that kind is made of another
+pub no-atom-is : (n a : ℕ) → checkedAtom n a ≡ Not → Within n a → ⊥
+no-atom-is n a e w = let z : _≡_ {A = ℕ} 0 1 = cc (e, atom-made n a w) in omega arith
+
+pub no-rule-is : (n k : ℕ) → checkedRule n k ≡ NotRule → Within n k → ⊥
+no-rule-is n k e w = let z : _≡_ {A = ℕ} 0 1 = cc (e, rule-made n k w) in omega arith

@@ -1,7 +1,7 @@
 -- `rule` meets its contract: each way through its tests is a case of `thenRule`.
 use borrow.Author.Needs.{needs}
 use Rattle.gate.specs.Gate.{thenRule}
-use Rattle.gate.proofs.Ways.{gate-ways}
+use Rattle.gate.proofs.Ways.{number-ways}
 use Rattle.gate.proofs.steps.rule.Statement.{statement}
 use Rattle.gate.proofs.steps.rule.Tie as tie
 
@@ -13,7 +13,7 @@ enum-told c = search needs
 
 returns : tie.Need-returns
 unfolding thenRule
-returns c = search gate-ways depth 16
+returns c = search number-ways depth 16
 
 checked-requires : tie.Need-checked-requires
 checked-requires c κs = search needs
@@ -29,11 +29,11 @@ stop-requires c κs = search needs
 
 returns-2 : tie.Need-returns-2
 unfolding thenRule
-returns-2 c = search gate-ways depth 16
+returns-2 c = search number-ways depth 16
 
 returns-3 : tie.Need-returns-3
 unfolding thenRule
-returns-3 c = search gate-ways depth 16
+returns-3 c = search number-ways depth 16
 
 pub rule-spec : {M : Type 1} → statement M
 rule-spec =
