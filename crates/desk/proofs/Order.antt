@@ -10,10 +10,10 @@ use lib.ListN.{length, getD, replicate}
 use lib.Dec.{eqb}
 use Rattle.rules.specs.Sum.{pick}
 use Rattle.rules.specs.Rule.{Sheet, Shuffled}
-use Rattle.rules.specs.inner.Fits.{Numbered}
 use Rattle.rules.specs.Stable.{Set, Model}
 use Rattle.rules.specs.Map.{Map, Literal, Holding, Written, inside, side, signed, total, _⊑_, undecided}
 use Rattle.rules.specs.Forcing.{Closed, Least, Pinned, SameSet, computed}
+use Rattle.rules.proofs.Fits.{Numbered}
 use Rattle.rules.proofs.Least.{least-same, contradiction-same, holding-left, holding-right, holding-append, pins-after, contradiction-after, pin-held, holding-nil}
 use Rattle.rules.proofs.Models.{loses-none, none-lost}
 use Rattle.rules.proofs.Shuffle.{least-shuffled, contradiction-shuffled}

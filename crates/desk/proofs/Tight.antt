@@ -10,9 +10,9 @@ use lib.ListN.{getD}
 use lib.Dec.{T, eqb}
 use Rattle.rules.specs.Rule.{Sheet, Within}
 use Rattle.rules.specs.inner.Bytes.{Room}
-use Rattle.rules.specs.inner.Fits.{Numbered}
 use Rattle.rules.specs.Map.{Map, Holding, Written}
 use Rattle.rules.specs.Forcing.{computed}
+use Rattle.rules.proofs.Fits.{Numbered}
 use Rattle.rules.proofs.Tight.{fixed}
 use Rattle.rules.proofs.Least.{least-unique, least-or-contradiction}
 use Rattle.rules.proofs.First.{first-unique}

@@ -19,7 +19,7 @@ use Rattle.rules.specs.inner.Bytes.{MapBytes}
 use Rattle.rules.proofs.Bytes.{side-at}
 use Rattle.table.specs.inner.Rows.{rowRule, tableRules, Laid}
 use Rattle.table.proofs.Rows.{Standing, rule-stands, rule-mem, laid-fits}
-use Rattle.weigh.specs.inner.Step.{Step, Till, isClash, isGrew, isSame}
+use Rattle.weigh.specs.inner.Step.{Step, Till, isClash, isGrew, isSame, Kept, Forces}
 use Rattle.weigh.specs.declared.Outcome.{Outcome}
 use Rattle.weigh.specs.declared.Outcome.the-variants.{Clash, Same, Grew}
 use Rattle.weigh.proofs.Bytes.{proper-map, equal?}
@@ -27,9 +27,19 @@ use Rattle.weigh.proofs.Steps.{kept-refl, kept-trans, forces-refl, forces-trans
 use Rattle.forcing.specs.inner.Heads.{Settled, SettlesAll}
 use Rattle.forcing.specs.inner.Support.{Counts, Backed, BacksAll}
 use Rattle.forcing.specs.inner.Ground.{ListsFounded, Drops, Unless}
-use Rattle.forcing.specs.inner.Rounds.{LowestAt, Summed, Forcing, BackedAll, FoundedAll, Closes, ClosesMap}
+use Rattle.forcing.specs.inner.Rounds.{LowestAt, Forcing, BackedAll, FoundedAll, ClosesMap}
 use Rattle.forcing.specs.declared.Closing.the-variants.{NoneHolds, ClosedWith}
 use Rattle.forcing.proofs.Founding.{unfounded-out}
+
+-- the zero bytes before index i are counted
+pub record Summed (n : ℕ) (m : List ℕ) (sum i : ℕ) : Type 0 where
+  pub few : sum ≤ i
+  pub whole : sum + tally (λ b. eqb b 0) (λ _. 1) (drop i (take n m)) ≡ undecided n m
+
+-- what is added so far is forced
+pub record Closes (c : List ℕ) (n count : ℕ) (m m′ : List ℕ) : Type 0 where
+  pub kept : Kept n m m′
+  pub forces : Forces (Closed (tableRules c count) n) (side n m) (side n m′)
 
 -- an outcome that is not the same is not quiet for anything
 pub loud-any :

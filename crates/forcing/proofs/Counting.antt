@@ -23,7 +23,24 @@ use Rattle.table.specs.inner.Rows.{headsAt, positivesAt, needAt, rowRule, rowRu
 use Rattle.table.proofs.Words.{AtomFound, atoms-listed, has-done, has-next}
 use Rattle.table.proofs.Rows.{heads-apart, rules-done, rows-next}
 use Rattle.weigh.proofs.Bytes.{equal?}
-use Rattle.forcing.specs.inner.Support.{Counts, Small, Adds, Counting, Heading, Stirs}
+use Rattle.forcing.specs.inner.Support.{Counts, Small, Adds, Stirs}
+
+-- the rules before row i are counted
+pub record Counting (c : List ℕ) (n count : ℕ) (M : Map) (i : ℕ) (counts : List ℕ) : Type 0 where
+  pub room : n ≤ length counts
+  pub sofar :
+      (a : ℕ) → Within n a
+      → side n counts a + counted (is 1 M a) (supporters a M (rowRules c (count - i) i))
+      ≡ counted (is 1 M a) (supporters a M (tableRules c count))
+
+-- the heads before pair j are counted
+pub record Heading (c : List ℕ) (n i : ℕ) (M : Map) (counts₀ : List ℕ) (j : ℕ) (counts : List ℕ) : Type 0 where
+  pub long : length counts ≡ length counts₀
+  pub low : headsAt c i ≤ j
+  pub sofar :
+      (a : ℕ) → Within n a
+      → side n counts a + counted (is 1 M a && has a (segAtoms c j (positivesAt c i))) 1
+      ≡ side n counts₀ a + counted (is 1 M a && has a (segAtoms c (headsAt c i) (positivesAt c i))) 1
 
 -- one more at one atom
 module _ (n : ℕ) (counts : List ℕ) (a : ℕ) (w : Within n a) (room : n ≤ length counts) where

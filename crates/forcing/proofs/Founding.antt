@@ -19,12 +19,17 @@ use Rattle.rules.proofs.Maps.{want-decided}
 use Rattle.rules.proofs.Forced.{forced-fourth}
 use Rattle.table.specs.inner.Rows.{rowRule, tableRules}
 use Rattle.table.proofs.Rows.{Standing, rule-stands}
-use Rattle.weigh.specs.inner.Step.{Concludes, Kept, Till, both, isClash, isGrew}
+use Rattle.weigh.specs.inner.Step.{Concludes, Kept, Till, both, isClash, isGrew, Forces}
 use Rattle.weigh.specs.declared.Outcome.{Outcome}
 use Rattle.weigh.specs.declared.Outcome.the-variants.{Clash, Same, Grew}
 use Rattle.weigh.proofs.Steps.{kept-refl, kept-trans, forces-refl, forces-trans, concludes-on, clash-any, steps-begin, steps-more, steps-end}
-use Rattle.forcing.specs.inner.Ground.{PutsUnless, Unless, Grounding, Grounded, GroundsAll, Blank, Founding, ListsFounded, Drops}
+use Rattle.forcing.specs.inner.Ground.{PutsUnless, Unless, Grounding, Grounded, GroundsAll, Blank, ListsFounded, Drops}
 use Rattle.forcing.proofs.Groundings.{sided-out, kept-unless, step-unless}
+
+-- what is gathered so far has to be in U
+pub record Founding (c : List ℕ) (n count : ℕ) (m u u′ : List ℕ) : Type 0 where
+  pub kept : Kept n u u′
+  pub forces : Forces (Grounding (tableRules c count) (side n m)) (side n u) (side n u′)
 
 -- the map that stands for a set
 marks : Set → Map

@@ -7,11 +7,11 @@ use mathlib.Core.List.{List, [], _∷_, List·Memᴰ, List·Memᴰ·not-nil}
 use lib.Dec.{T, eqb}
 use Rattle.rules.specs.Sum.{tally, has}
 use Rattle.rules.specs.Rule.{Rule, Weighted, Sheet, Within, body}
-use Rattle.rules.specs.inner.Fits.{Numbered}
 use Rattle.rules.specs.Stable.{value, Set, Model}
 use Rattle.rules.specs.Map.{Literal, inside, side}
 use Rattle.rules.specs.shown.Cases.{WorkedCase, Expected, bytes, nothing, MapIs, ModelIs, Proved, workedCases, sheet}
 use Rattle.rules.specs.shown.Paper.{those}
+use Rattle.rules.proofs.Fits.{Numbered}
 use Rattle.rules.proofs.Tests.{T-and-left, T-and-right, T-eq, has-mem, T-false}
 use Rattle.rules.proofs.Inside.{inside-within}
 use Rattle.rules.proofs.Lists.{every, every-T}

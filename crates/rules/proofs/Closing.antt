@@ -11,10 +11,10 @@ use lib.ListN.{length, set, length-set}
 use lib.Dec.{T, eqb}
 use Rattle.rules.specs.Sum.{tally}
 use Rattle.rules.specs.Rule.{Rule, Within}
-use Rattle.rules.specs.inner.Fits.{Fits}
 use Rattle.rules.specs.Map.{Map, Literal, Holding, IsMap, side, want, _⊑_}
 use Rattle.rules.specs.Forcing.{Closed, Least, Contradiction}
 use Rattle.rules.specs.shown.Paper.{those}
+use Rattle.rules.proofs.Fits.{Fits}
 use Rattle.rules.proofs.Tests.{eq-T, T-eq, ne-T, T-ne, decided}
 use Rattle.rules.proofs.Sum.{tally-more}
 use Rattle.rules.proofs.Lists.{downFrom, within-upTo, those-mem, mem-those}

@@ -8,9 +8,9 @@ use mathlib.Core.List.{List, [], _∷_, _++_, map, List·Memᴰ, List·Memᴰ·h
 use lib.Dec.{T, eqb, leb, ltb, leb→le, le→leb, ltb→lt, lt→ltb, T-not}
 use Rattle.rules.specs.Sum.{has}
 use Rattle.rules.specs.Rule.{Rule, Weighted, Within, body, chooses}
-use Rattle.rules.specs.inner.Fits.{Fits}
 use Rattle.rules.specs.Map.{Map, Literal, Holding, IsMap, want, sure, reach, _⊑_, signed}
 use Rattle.rules.specs.Forcing.{Closed, supports, supporters}
+use Rattle.rules.proofs.Fits.{Fits}
 use Rattle.rules.proofs.Tests.{and-T, T-and-left, T-and-right, eq-T, T-eq, has-mem, mem-has, decided}
 use Rattle.rules.proofs.Lists.{some, some-T, T-some, each, each-mem, mem-each, guard, guard-mem, mem-guard, downFrom, downFrom-within, within-upTo}
 use Rattle.rules.proofs.Members.{map-mem, mem-map}

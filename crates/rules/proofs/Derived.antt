@@ -9,8 +9,8 @@ use native.Mathlib.Omega.{arith}
 use lib.Dec.{T, leb, leb→le, le→leb, T-not}
 use Rattle.rules.specs.Sum.{has}
 use Rattle.rules.specs.Rule.{Rule, Weighted, Within, body, chooses}
-use Rattle.rules.specs.inner.Fits.{Fits}
 use Rattle.rules.specs.Stable.{Set, outside, value, Gives, Contains, Below, Stable}
+use Rattle.rules.proofs.Fits.{Fits}
 use Rattle.rules.proofs.Tests.{and-T, T-and-left, T-and-right, T-or, or-left, or-right, T-same, beq-eq, eq-beq, has-mem, decided}
 use Rattle.rules.proofs.Inside.{within?}
 use Rattle.rules.proofs.Lists.{some, some-T, T-some, every, every-T, T-every, each, mem-each, downFrom, within-upTo}

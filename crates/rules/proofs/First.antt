@@ -10,17 +10,23 @@ use native.Mathlib.Omega.{arith}
 use native.Mathlib.Nat.{eq-or-lt-of-le, le-of-suc-le-suc, not-suc-le-zero}
 use lib.Dec.{T, T-not}
 use Rattle.rules.specs.Rule.{Sheet, Within}
-use Rattle.rules.specs.inner.Fits.{Numbered}
 use Rattle.rules.specs.Stable.{Set, outside, Before, FirstOf, First, Model}
 use Rattle.rules.specs.Map.{Map, Holding, Over, IsMap, signed, want, is, total}
 use Rattle.rules.specs.Forcing.{Closed, Least, Contradiction, computed}
-use Rattle.rules.specs.inner.Search.{ModelOver, Lowest, OnSide, Branch}
+use Rattle.rules.specs.inner.Search.{ModelOver, OnSide, Branch}
+use Rattle.rules.proofs.Fits.{Numbered}
 use Rattle.rules.proofs.Tests.{eq-T, ne-T, T-ne, T-true, T-false, decided, order}
 use Rattle.rules.proofs.Inside.{within?}
 use Rattle.rules.proofs.Maps.{sides, decided-within, want-apart, ⊑-trans}
 use Rattle.rules.proofs.Total.{total-in, total-out, in-total, out-total, stable-within, closed-stable}
 use Rattle.rules.proofs.Least.{over-one, over-at}
 use Rattle.rules.proofs.Models.{model-closed, model-holding, holding-agrees}
+
+-- the lowest undecided atom: every atom before it is decided
+pub record Lowest (n : ℕ) (M : Map) (a : ℕ) : Type 0 where
+  pub within : Within n a
+  pub undecided : M a ≡ 0
+  pub lower : (b : ℕ) → Within n b → b < a → M b ≡ 0 → ⊥
 
 -- where two sets differ first, below a bound
 pub differ :

@@ -6,10 +6,10 @@ use native.Mathlib.Omega.{arith}
 use lib.Dec.{T, leb, leb→le, le→leb}
 use Rattle.rules.specs.Sum.{has}
 use Rattle.rules.specs.Rule.{Rule, Weighted, body}
-use Rattle.rules.specs.inner.Fits.{Fits}
 use Rattle.rules.specs.Stable.{Set, value, Below}
 use Rattle.rules.specs.Map.{Map, isnt}
 use Rattle.rules.specs.Forcing.{Grounds, Founded}
+use Rattle.rules.proofs.Fits.{Fits}
 use Rattle.rules.proofs.Tests.{and-T, T-and-left, T-and-right, ne-T, T-ne}
 use Rattle.rules.proofs.Lists.{some, some-T, T-some, downFrom, within-upTo}
 use Rattle.rules.proofs.Value.{by, value-mono}

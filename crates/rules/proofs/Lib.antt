@@ -1,3 +1,4 @@
+pub mod Fits
 pub mod Inside
 pub mod Tests
 pub mod Sum

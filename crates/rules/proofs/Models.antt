@@ -8,10 +8,10 @@ use mathlib.Core.List.{List, map, List·Memᴰ, List·Memᴰ·append-cases, Mem�
 use lib.Dec.{T, T-not}
 use Rattle.rules.specs.Sum.{has}
 use Rattle.rules.specs.Rule.{Sheet}
-use Rattle.rules.specs.inner.Fits.{Numbered}
 use Rattle.rules.specs.Stable.{Set, Agrees, Model, NoModel}
 use Rattle.rules.specs.Map.{Map, Literal, Holding, want, is, total, _⊑_, signed}
 use Rattle.rules.specs.Forcing.{Closed, Least, Contradiction, Pinned, computed}
+use Rattle.rules.proofs.Fits.{Numbered}
 use Rattle.rules.proofs.Tests.{eq-T, ne-T, has-mem, mem-has}
 use Rattle.rules.proofs.Members.{map-mem, mem-map}
 use Rattle.rules.proofs.Maps.{want-apart}

@@ -10,9 +10,9 @@ use lib.ListN.{length, set, length-set, replicate, length-replicate, getD-replic
 use lib.Dec.{T, eqb}
 use Rattle.rules.specs.Sum.{counted, tally}
 use Rattle.rules.specs.Rule.{Sheet, Within}
-use Rattle.rules.specs.inner.Fits.{Numbered}
 use Rattle.rules.specs.Map.{Map, Literal, Holding, IsMap, side, want, _⊑_, signed}
 use Rattle.rules.specs.Forcing.{Least, Contradiction, Pinned, computed, Closed}
+use Rattle.rules.proofs.Fits.{Numbered}
 use Rattle.rules.proofs.Tests.{eq-T, T-eq, mem-has}
 use Rattle.rules.proofs.Lists.{downFrom}
 use Rattle.rules.proofs.Members.{map-mem}

@@ -10,11 +10,11 @@ use native.Mathlib.Nat.{not-suc-le-zero, eq-or-lt-of-le}
 use lib.ListN.{length, set, length-set}
 use lib.Dec.{T, eqb}
 use Rattle.rules.specs.Rule.{Rule, Sheet, Within}
-use Rattle.rules.specs.inner.Fits.{Numbered}
 use Rattle.rules.specs.Stable.{Set, FirstOf, First, NoModel}
 use Rattle.rules.specs.Map.{Map, Holding, Over, IsMap, side, signed, want, is, total, _⊑_}
 use Rattle.rules.specs.Forcing.{Closed, Least, Pinned, computed}
-use Rattle.rules.specs.inner.Search.{ModelOver, Lowest, Branch}
+use Rattle.rules.specs.inner.Search.{ModelOver, Branch}
+use Rattle.rules.proofs.Fits.{Numbered}
 use Rattle.rules.proofs.Tests.{eq-T, T-eq}
 use Rattle.rules.proofs.Sum.{tally-mono}
 use Rattle.rules.proofs.Lists.{downFrom}
@@ -22,7 +22,7 @@ use Rattle.rules.proofs.Maps.{sides, want-decided}
 use Rattle.rules.proofs.Bytes.{over-written, written-over, written-map}
 use Rattle.rules.proofs.Least.{holding-nil, holding-append, holding-up, holding-left, least-same, contradiction-same}
 use Rattle.rules.proofs.Models.{model-closed, model-holding}
-use Rattle.rules.proofs.First.{try-in, try-out, try-none, branch-first, branch-none, branch-clash, leaf, first-above, none-at-all}
+use Rattle.rules.proofs.First.{Lowest, try-in, try-out, try-none, branch-first, branch-none, branch-clash, leaf, first-above, none-at-all}
 use Rattle.rules.proofs.Closing.{Ending, closedAt, clash, closing, closing-right, openCount, undecided-falls, Right}
 use Rattle.rules.proofs.Opening.{few, opening, opening-right, Opened}
 

@@ -10,7 +10,7 @@ use Rattle.rules.specs.Rule.{Sheet, Within}
 use Rattle.rules.specs.Stable.{Model}
 use Rattle.rules.specs.Map.{Map, IsMap, Over, Whole, side, is, want, total, _⊑_}
 use Rattle.rules.specs.Forcing.{Closed, Least, Contradiction, computed}
-use Rattle.rules.specs.inner.Fits.{Numbered}
+use Rattle.rules.proofs.Fits.{Numbered}
 use Rattle.rules.proofs.Tests.{eq-T, ne-T}
 use Rattle.rules.proofs.Maps.{sides, want-apart, decided-within, ⊑-antisym}
 use Rattle.rules.proofs.Bytes.{side-at, side-map}

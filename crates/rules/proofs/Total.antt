@@ -10,10 +10,10 @@ use native.Mathlib.Omega.{arith}
 use lib.Dec.{T, T-not}
 use Rattle.rules.specs.Sum.{has}
 use Rattle.rules.specs.Rule.{Rule, Weighted, Within, body, chooses}
-use Rattle.rules.specs.inner.Fits.{Fits}
 use Rattle.rules.specs.Stable.{Set, outside, value, Contains, Stable}
 use Rattle.rules.specs.Map.{Map, IsMap, inside, want, is, isnt, sure, total}
 use Rattle.rules.specs.Forcing.{Closed, Grounds, Founded}
+use Rattle.rules.proofs.Fits.{Fits}
 use Rattle.rules.proofs.Tests.{eq-T, T-eq, ne-T, T-ne, and-T, T-and-left, T-and-right, T-true, T-false, decided}
 use Rattle.rules.proofs.Inside.{inside-true, inside-false, within-inside, inside-within, within?}
 use Rattle.rules.proofs.Value.{by, value-mono}

@@ -1,3 +1,2 @@
 pub mod Bytes
-pub mod Fits
 pub mod Search

@@ -9,11 +9,10 @@ use lib.ListN.{getD}
 use Rattle.rules.specs.Rule.{Within}
 use Rattle.rules.specs.Map.{Over, Whole, side, signed}
 use Rattle.rules.specs.Forcing.{Closed, Contradiction, computed}
-use Rattle.rules.specs.inner.Fits.{Numbered}
-use Rattle.rules.specs.inner.Search.{Lowest}
+use Rattle.rules.proofs.Fits.{Numbered}
 use Rattle.rules.proofs.Bytes.{side-at, side-index, index-within}
 use Rattle.rules.proofs.Least.{holding-up}
-use Rattle.rules.proofs.First.{leaf, try-in, try-out, try-none, branch-first, branch-none, branch-clash}
+use Rattle.rules.proofs.First.{Lowest, leaf, try-in, try-out, try-none, branch-first, branch-none, branch-clash}
 use Rattle.table.specs.inner.Rows.{tableRules, tableSheet}
 use Rattle.table.proofs.Rows.{laid-numbered}
 use Rattle.forcing.specs.inner.Rounds.{LowestAt}

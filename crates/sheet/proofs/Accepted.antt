@@ -6,7 +6,7 @@ use native.Mathlib.Omega.{arith}
 use lib.ListN.{length}
 use Rattle.rules.specs.Limits.{bytesMost}
 use Rattle.rules.specs.Rule.{Sheet}
-use Rattle.rules.specs.inner.Fits.{Numbered}
+use Rattle.rules.proofs.Fits.{Numbered}
 use Rattle.numbers.specs.shown.Encode.{IsBytes}
 use Rattle.sheet.specs.Sheet.{sheetRead, sheetThen}
 use Rattle.sheet.specs.Meaning.{accepted, refused, sheetMeant, sheetOf}

@@ -4,7 +4,7 @@ use mathlib.Core.Path.{ap}
 use mathlib.Core.List.{List, List·Memᴰ, List·Memᴰ·head, List·Memᴰ·tail}
 use Rattle.rules.specs.Limits.{atomsMost}
 use Rattle.rules.specs.Rule.{Rule, Weighted, Sheet, atomsOf}
-use Rattle.rules.specs.inner.Fits.{Fits, Numbered}
+use Rattle.rules.proofs.Fits.{Fits, Numbered}
 use Rattle.rules.proofs.Tests.{has-mem}
 use Rattle.sheet.specs.shown.Encode.{ProperRules, WellFormed}
 use Rattle.sheet.proofs.Sound.{rising-within, each-sound}

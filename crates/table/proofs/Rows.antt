@@ -11,7 +11,7 @@ use native.Mathlib.Numerals.{add-one}
 use lib.Dec.{T, eqb}
 use Rattle.rules.specs.Sum.{has}
 use Rattle.rules.specs.Rule.{Rule, Weighted, basic, constraint, choice, weight, chooses, body, Within, kindNumber, atomsOf}
-use Rattle.rules.specs.inner.Fits.{Fits, Numbered}
+use Rattle.rules.proofs.Fits.{Fits, Numbered}
 use Rattle.table.specs.inner.Words.{pairAtom, seg}
 use Rattle.table.specs.inner.Rows.{kindOf, rowRule, rowRules, tableRules, headsAt, positivesAt, from, to, Row, Laid, tableSheet}
 use Rattle.table.proofs.Words.{Among, PairFound, AtomFound, seg-found, atoms-listed}

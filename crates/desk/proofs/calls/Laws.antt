@@ -14,7 +14,7 @@ use Rattle.rules.specs.Stable.{Model, First}
 use Rattle.rules.specs.Map.{Map, Holding, Over, side, is, Whole, blank}
 use Rattle.rules.specs.Forcing.{Closed, Least, computed}
 use Rattle.rules.specs.inner.Bytes.{Room}
-use Rattle.rules.specs.inner.Fits.{Numbered}
+use Rattle.rules.proofs.Fits.{Numbered}
 use Rattle.rules.proofs.Testing.{closed-model, clash-no-model}
 use Rattle.numbers.specs.declared.Refusal.{Refusal}
 use Rattle.sheet.specs.Sheet.{sheetRead, sheetThen}

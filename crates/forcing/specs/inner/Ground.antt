@@ -15,7 +15,7 @@ use Rattle.rules.specs.Forcing.{Closed, Grounds, Founded}
 use Rattle.rules.specs.inner.Bytes.{MapBytes}
 use Rattle.table.specs.inner.Words.{pairAtom}
 use Rattle.table.specs.inner.Rows.{headsAt, rowRule, tableRules, Row}
-use Rattle.weigh.specs.inner.Step.{Forces, Concludes, Kept, Step, Till, Puts}
+use Rattle.weigh.specs.inner.Step.{Concludes, Kept, Step, Till, Puts}
 use Rattle.weigh.specs.declared.Outcome.{Outcome}
 use Rattle.weigh.specs.declared.Outcome.the-variants.{Same}
 
@@ -87,11 +87,6 @@ GroundsAll c n count m u u′ r =
 pub record Blank (n : ℕ) (u : List ℕ) : Type 0 where
   pub proper : MapBytes n u
   pub blank : (a : ℕ) → side n u a ≡ 0
-
--- what is gathered so far has to be in U
-pub record Founding (c : List ℕ) (n count : ℕ) (m u u′ : List ℕ) : Type 0 where
-  pub kept : Kept n u u′
-  pub forces : Forces (Grounding (tableRules c count) (side n m)) (side n u) (side n u′)
 
 -- the bytes are U: what is listed is founded, and what is listed holds what U must hold
 pub record ListsFounded (c : List ℕ) (n count : ℕ) (m u : List ℕ) : Type 0 where

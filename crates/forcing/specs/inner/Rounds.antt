@@ -1,24 +1,17 @@
 -- "A map is closed when none of these adds anything." "the map becomes the smallest closed map holding the old map"
-use Prim.Native.Nat.{ℕ, _+_, _≤_, _<_}
+use Prim.Native.Nat.{ℕ, _≤_, _<_}
 use mathlib.Core.Path.{_≡_}
 use mathlib.Core.List.{List}
-use lib.Dec.{eqb}
-use lib.ListN.{getD, take, drop}
-use Rattle.rules.specs.Sum.{tally}
+use lib.ListN.{getD}
 use Rattle.rules.specs.Rule.{Within}
 use Rattle.rules.specs.Map.{Map, side, _⊑_, undecided}
 use Rattle.rules.specs.Forcing.{Closed, Founded, Least, Contradiction}
 use Rattle.table.specs.inner.Rows.{rowRule, tableRules}
-use Rattle.weigh.specs.inner.Step.{Forces, Kept, Step, Till}
+use Rattle.weigh.specs.inner.Step.{Kept, Step, Till}
 use Rattle.weigh.specs.declared.Outcome.{Outcome}
 use Rattle.forcing.specs.inner.Support.{Backed}
 use Rattle.forcing.specs.declared.Closing.{Closing}
 use Rattle.forcing.specs.declared.Closing.the-variants.{NoneHolds, ClosedWith}
-
--- the zero bytes before index i are counted
-pub record Summed (n : ℕ) (m : List ℕ) (sum i : ℕ) : Type 0 where
-  pub few : sum ≤ i
-  pub whole : sum + tally (λ b. eqb b 0) (λ _. 1) (drop i (take n m)) ≡ undecided n m
 
 -- the lowest undecided atom has this index; at n there is none
 pub record LowestAt (n : ℕ) (m : List ℕ) (i : ℕ) : Type 0 where
@@ -37,11 +30,6 @@ BackedAll c count = Till (λ k. Backed (tableRules c count) (rowRule c k)) 0 cou
 -- forcing rule 4 has nothing to add
 abbrev pub FoundedAll : List ℕ → ℕ → ℕ → Map → Type 0
 FoundedAll c n count M = (a : ℕ) → Within n a → (M a ≡ 2 → ⊥) → Founded (tableRules c count) M a
-
--- what is added so far is forced
-pub record Closes (c : List ℕ) (n count : ℕ) (m m′ : List ℕ) : Type 0 where
-  pub kept : Kept n m m′
-  pub forces : Forces (Closed (tableRules c count) n) (side n m) (side n m′)
 
 -- the smallest closed map that holds the old one, with its number of undecided atoms; or no closed map holds it
 abbrev pub ClosedAs : List ℕ → ℕ → ℕ → List ℕ → List ℕ → Closing → Type 0

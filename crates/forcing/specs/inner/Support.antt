@@ -1,9 +1,9 @@
 -- "2. An atom is in and exactly one rule with that head has reach at or above its need: each undecided literal of that body whose
 -- weight taken from reach leaves less than the need is made true." "Repeated rules count as often as they stand on the sheet."
 -- The rules that can still give an atom are counted for all atoms that are in at once, by atom.
-use Prim.Native.Nat.{ℕ, _+_, _-_, _≤_, _<_}
+use Prim.Native.Nat.{ℕ, _+_, _≤_, _<_}
 use mathlib.Core.Path.{_≡_}
-use mathlib.Core.Bool.{Bool, true, false, _&&_}
+use mathlib.Core.Bool.{Bool, true, false}
 use mathlib.Core.List.{List, List·Memᴰ}
 use lib.Dec.{T}
 use lib.ListN.{length}
@@ -13,8 +13,7 @@ use Rattle.rules.specs.Rule.{Rule, Weighted, Within, body}
 use Rattle.rules.specs.Map.{Map, side, is, reach, _⊑_}
 use Rattle.rules.specs.Forcing.{Closed, supports, supporters}
 use Rattle.rules.specs.inner.Bytes.{MapBytes}
-use Rattle.table.specs.inner.Words.{segAtoms}
-use Rattle.table.specs.inner.Rows.{headsAt, positivesAt, rowRule, rowRules, tableRules, Row}
+use Rattle.table.specs.inner.Rows.{rowRule, tableRules, Row}
 use Rattle.weigh.specs.inner.Step.{Kept, Step, Till}
 use Rattle.weigh.specs.declared.Outcome.{Outcome}
 
@@ -35,23 +34,6 @@ pub record CountAsks (n : ℕ) (m : List ℕ) (some : ℕ) (counts : List ℕ) :
 -- one more at each atom that passes a test
 pub record Adds (n : ℕ) (test : ℕ → Bool) (counts counts′ : List ℕ) : Type 0 where
   pub adds : (a : ℕ) → Within n a → side n counts′ a ≡ side n counts a + counted (test a) 1
-
--- the rules before row i are counted
-pub record Counting (c : List ℕ) (n count : ℕ) (M : Map) (i : ℕ) (counts : List ℕ) : Type 0 where
-  pub room : n ≤ length counts
-  pub sofar :
-      (a : ℕ) → Within n a
-      → side n counts a + counted (is 1 M a) (supporters a M (rowRules c (count - i) i))
-      ≡ counted (is 1 M a) (supporters a M (tableRules c count))
-
--- the heads before pair j are counted
-pub record Heading (c : List ℕ) (n i : ℕ) (M : Map) (counts₀ : List ℕ) (j : ℕ) (counts : List ℕ) : Type 0 where
-  pub long : length counts ≡ length counts₀
-  pub low : headsAt c i ≤ j
-  pub sofar :
-      (a : ℕ) → Within n a
-      → side n counts a + counted (is 1 M a && has a (segAtoms c j (positivesAt c i))) 1
-      ≡ side n counts₀ a + counted (is 1 M a && has a (segAtoms c (headsAt c i) (positivesAt c i))) 1
 
 -- no head of the rule is in
 abbrev pub Still : Rule → Map → Type 0

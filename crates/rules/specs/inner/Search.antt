@@ -1,21 +1,14 @@
 -- "The search takes the lowest undecided atom, first with the atom in, then with it out."
-use Prim.Native.Nat.{ℕ, _<_}
-use mathlib.Core.Path.{_≡_}
+use Prim.Native.Nat.{ℕ}
 use mathlib.Core.Bool.{Bool, true, false}
 use lib.Dec.{T}
-use Rattle.rules.specs.Rule.{Sheet, Within}
+use Rattle.rules.specs.Rule.{Sheet}
 use Rattle.rules.specs.Stable.{Set, outside, Model}
 use Rattle.rules.specs.Map.{Map, total, _⊑_}
 
 -- an agreeing stable model that a map has not ruled out
 abbrev pub ModelOver : Sheet → Map → Set → Type 0
 ModelOver sh M S = Model sh S × (M ⊑ total (sh .atoms) S)
-
--- the lowest undecided atom: every atom before it is decided
-pub record Lowest (n : ℕ) (M : Map) (a : ℕ) : Type 0 where
-  pub within : Within n a
-  pub undecided : M a ≡ 0
-  pub lower : (b : ℕ) → Within n b → b < a → M b ≡ 0 → ⊥
 
 -- a set on a literal's side: it has the atom, or not
 abbrev pub OnSide : Bool → Set → ℕ → Type 0

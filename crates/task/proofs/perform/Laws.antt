@@ -13,11 +13,11 @@ use Rattle.rules.specs.Stable.{Model, First}
 use Rattle.rules.specs.Map.{Map, Literal, Holding, Over, Whole, side, is, _⊑_, signed, margin, blank}
 use Rattle.rules.specs.Forcing.{Closed, Least, computed}
 use Rattle.rules.specs.inner.Bytes.{Room, MapBytes}
-use Rattle.rules.specs.inner.Fits.{Numbered}
 use Rattle.rules.specs.declared.Item.{Item}
 use Rattle.rules.specs.declared.Item.the-variants.{Is, Nothing}
 use Rattle.rules.specs.declared.Atom.{Atom}
 use Rattle.rules.specs.declared.RuleNo.{RuleNo}
+use Rattle.rules.proofs.Fits.{Numbered}
 use Rattle.rules.proofs.Maps.{want-decided}
 use Rattle.rules.proofs.Least.{least-same, contradiction-same}
 use Rattle.rules.proofs.First.{first-above, all-above, none-at-all}

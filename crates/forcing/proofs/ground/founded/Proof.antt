@@ -4,8 +4,7 @@ use mathlib.Core.Path.{sym, _∙_}
 use borrow.Author.Needs.{needs}
 use denote.Ref.{now}
 use Rattle.rules.specs.Map.{undecided}
-use Rattle.forcing.specs.inner.Ground.{Founding}
-use Rattle.forcing.proofs.Founding.{founding-begin, founding-more, founding-end}
+use Rattle.forcing.proofs.Founding.{Founding, founding-begin, founding-more, founding-end}
 use Rattle.forcing.proofs.ground.founded.Statement.{statement}
 use Rattle.forcing.proofs.ground.founded.Tie as tie
 

@@ -5,8 +5,7 @@ use mathlib.Core.Path.{sym, _∙_}
 use borrow.Author.Needs.{needs}
 use denote.Ref.{now}
 use Rattle.rules.specs.Map.{undecided}
-use Rattle.forcing.specs.inner.Rounds.{Closes}
-use Rattle.forcing.proofs.Closings.{closes-begin, closes-more, closes-none, closes-with}
+use Rattle.forcing.proofs.Closings.{Closes, closes-begin, closes-more, closes-none, closes-with}
 use Rattle.forcing.proofs.rounds.close.Statement.{statement}
 use Rattle.forcing.proofs.rounds.close.Tie as tie
 

@@ -4,8 +4,7 @@ use mathlib.Core.Path.{sym, subst}
 use mathlib.Core.Logic.{⊎-elim}
 use native.Mathlib.Omega.{arith}
 use denote.Ref.{now}
-use Rattle.forcing.specs.inner.Rounds.{Summed}
-use Rattle.forcing.proofs.Closings.{summed-begin, summed-zero, summed-other, summed-end}
+use Rattle.forcing.proofs.Closings.{Summed, summed-begin, summed-zero, summed-other, summed-end}
 use Rattle.forcing.proofs.rounds.count_undecided.Statement.{statement}
 use Rattle.forcing.proofs.rounds.count_undecided.Tie as tie
 

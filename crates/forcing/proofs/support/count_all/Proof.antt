@@ -5,8 +5,7 @@ use native.Mathlib.Omega.{arith}
 use lib.ListN.{length}
 use denote.Ref.{now}
 use Rattle.rules.specs.Map.{side}
-use Rattle.forcing.specs.inner.Support.{Counting}
-use Rattle.forcing.proofs.Counting.{counting-begin, counting-small, counting-more, counting-end}
+use Rattle.forcing.proofs.Counting.{Counting, counting-begin, counting-small, counting-more, counting-end}
 use Rattle.forcing.proofs.support.count_all.Statement.{statement}
 use Rattle.forcing.proofs.support.count_all.Tie as tie
 

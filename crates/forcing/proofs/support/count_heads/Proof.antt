@@ -4,8 +4,7 @@ use native.Mathlib.Omega.{arith}
 use borrow.Author.Needs.{needs}
 use denote.Ref.{now}
 use Rattle.rules.specs.Map.{side}
-use Rattle.forcing.specs.inner.Support.{Heading}
-use Rattle.forcing.proofs.Counting.{heading-begin, heading-small, heading-more, heading-end}
+use Rattle.forcing.proofs.Counting.{Heading, heading-begin, heading-small, heading-more, heading-end}
 use Rattle.forcing.proofs.support.count_heads.Statement.{statement}
 use Rattle.forcing.proofs.support.count_heads.Tie as tie
 
