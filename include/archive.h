@@ -14,7 +14,7 @@
  * Every call returns top * 2^40 + value:
  *
  *   top       value
- *   1 to 14   a place       refused, by the number of the refusal
+ *   1 to 15   a place       refused, by the number of the refusal
  *   32        n * 2^16 + r  accepted, with n atoms and r rules
  *   33        a count       closed, with so many undecided atoms
  *   34        0             contradiction
@@ -30,7 +30,7 @@
  * the map's bytes past the sheet's atom count. The refusals:
  *
  *   1   the sheet ends inside or before a number      at the sheet's length
- *   2   a number is not shortest, or longer than four bytes
+ *   2   a number is not in its shortest form
  *   3   the edition is not 1
  *   4   a count or a weight is outside its limits
  *   5   the kind of a rule is not 1, 2, 3 or 5
@@ -43,10 +43,13 @@
  *   12  a byte of the map is not allowed              at its index
  *   13  the rule number is 0 or above the rule count  at 0
  *   14  the margin is asked on a contradiction        at 0
+ *   15  a number is longer than four bytes (the fourth has its top bit set,
+ *       whatever follows)
  *
- * Refusals 2 to 6 are at the first byte of the number. Refusal 9 is tested
- * first, then the sheet in reading order, then 10, 11, 13, 12, 14, as far as
- * the call has such an input.
+ * Refusals 2 to 6 and 15 are at the first byte of the number. The sheet's own
+ * are 1 to 9 and 15: every call can give them. Refusal 9 is tested first, then
+ * the sheet in reading order, then 10, 11, 13, 12, 14, as far as the call has
+ * such an input.
  */
 #ifndef ARCHIVE_H
 #define ARCHIVE_H
@@ -85,20 +88,20 @@ static inline int64_t desk_margin_of(uint64_t answer) {
     return (int64_t)desk_value(answer) - (INT64_C(1) << 32);
 }
 
-/* Checks a sheet: accepted, or refused by 1 to 9. */
+/* Checks a sheet: accepted, or refused by one of the sheet's own. */
 uint64_t desk_check(const uint8_t *sheet, size_t sheet_length);
 
 /*
  * Writes the smallest closed map that holds the compute lists: closed with
  * the number of undecided atoms, or contradiction and n bytes of 3. The old
- * map is not read. Refused by 1 to 10.
+ * map is not read. Refused by the sheet's own and 10.
  */
 uint64_t desk_open(const uint8_t *sheet, size_t sheet_length, uint8_t *map, size_t map_length);
 
 /*
  * Makes the map the smallest closed map that holds the old map and the atom
  * on the side, 1 in or 2 out. Answers as desk_open does; on a contradiction
- * it answers contradiction again. Refused by 1 to 12.
+ * it answers contradiction again. Refused by the sheet's own and 10 to 12.
  */
 uint64_t desk_pin(const uint8_t *sheet, size_t sheet_length, uint8_t *map, size_t map_length, uint64_t atom,
                   uint64_t side);
@@ -107,20 +110,20 @@ uint64_t desk_pin(const uint8_t *sheet, size_t sheet_length, uint8_t *map, size_
  * Writes the first stable model that agrees with the compute lists as a map
  * of 1s and 2s: model; or none and n bytes of 3. Of two models the one comes
  * first that has the lowest atom where they differ. The old map is not read.
- * Refused by 1 to 10.
+ * Refused by the sheet's own and 10.
  */
 uint64_t desk_solve(const uint8_t *sheet, size_t sheet_length, uint8_t *map, size_t map_length);
 
 /*
  * Yes exactly when the in-atoms of a map of 1s and 2s form a stable model
- * that agrees with the compute lists, else no. Refused by 1 to 10, and by 12
- * at the first byte that is not 1 or 2.
+ * that agrees with the compute lists, else no. Refused by the sheet's own and
+ * 10, and by 12 at the first byte that is not 1 or 2.
  */
 uint64_t desk_test(const uint8_t *sheet, size_t sheet_length, const uint8_t *map, size_t map_length);
 
 /*
  * Reach less need of the rule on the map. A margin below 0 is an answer: the
- * body can no longer hold. Refused by 1 to 10 and 12 to 14.
+ * body can no longer hold. Refused by the sheet's own, 10 and 12 to 14.
  */
 uint64_t desk_margin(const uint8_t *sheet, size_t sheet_length, const uint8_t *map, size_t map_length, uint64_t rule);
 
@@ -135,7 +138,7 @@ uint64_t desk_margin(const uint8_t *sheet, size_t sheet_length, const uint8_t *m
  *
  * The index counts from 0 and is looked at only by the parts 3, 5, 6, 8 and
  * 9. An index past the end of its list, or any other part: nothing there.
- * Refused by 1 to 9 and 13.
+ * Refused by the sheet's own and 13.
  */
 uint64_t desk_rule(const uint8_t *sheet, size_t sheet_length, uint64_t rule, uint64_t part, uint64_t index);
 

@@ -46,5 +46,8 @@ int main(void) {
     show("rule", answer, code(DESK_PART, 1), map, second);
     answer = desk_check(sheet, 2);
     show("short", answer, code(1, 2), map, second);
+    const uint8_t five_groups[] = {1, 0x82, 0x80, 0x80, 0x80, 0};
+    answer = desk_open(five_groups, sizeof five_groups, map, sizeof map);
+    show("long", answer, code(15, 1), map, second);
     return wrong;
 }

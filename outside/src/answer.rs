@@ -9,6 +9,11 @@ pub struct Refusal {
     pub place: usize,
 }
 
+/// The numbers of the refusals that a sheet's own bytes can have.
+pub const SHEET_REFUSALS: [u8; 10] = [1, 2, 3, 4, 5, 6, 7, 8, 9, 15];
+/// The refusals are numbered from 1 to this.
+pub const HIGHEST_REFUSAL: u8 = 15;
+
 /// Every answer of every call.
 #[derive(Clone, Copy, Debug, PartialEq, Eq)]
 pub enum Answer {
@@ -49,7 +54,9 @@ impl Answer {
     pub fn of_code(code: u64) -> Option<Answer> {
         let value = code % (1 << 40);
         let answer = match code >> 40 {
-            number @ 1..=14 => Answer::Refused(Refusal { number: number as u8, place: value as usize }),
+            number if (1..=u64::from(HIGHEST_REFUSAL)).contains(&number) => {
+                Answer::Refused(Refusal { number: number as u8, place: value as usize })
+            }
             32 => Answer::Accepted { atoms: (value >> 16) as usize, rules: (value % (1 << 16)) as usize },
             33 => Answer::Closed { undecided: value as usize },
             34 => Answer::Contradiction,
@@ -119,7 +126,10 @@ mod tests {
         for answer in [Answer::Margin(-268_435_455), Answer::Margin(1_024_000_000), Answer::No] {
             assert_eq!(Answer::of_code(answer.code()), Some(answer));
         }
+        let highest = Answer::Refused(Refusal { number: HIGHEST_REFUSAL, place: 65_532 });
+        assert_eq!(Answer::of_code(highest.code()), Some(highest));
         assert_eq!(Answer::of_code(0), None);
+        assert_eq!(Answer::of_code(16 << 40), None);
         assert_eq!(Answer::of_code(Answer::Model.code() + 1), None);
     }
 }

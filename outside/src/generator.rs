@@ -233,6 +233,27 @@ fn damage(draw: &mut Draw, bytes: &mut Vec<u8>) {
     }
 }
 
+/// The wrong forms of a number, each with the number of its refusal: padded
+/// with empty groups to at most four (2), and more than four groups (15), of
+/// which the last is empty or not.
+pub fn long_forms(number: u32) -> Vec<(Vec<u8>, u8)> {
+    let shortest = number_bytes(number);
+    let mut forms = Vec::new();
+    for length in shortest.len() + 1..=6 {
+        let mut padded = shortest.clone();
+        padded.resize(length, 0);
+        padded[..length - 1].iter_mut().for_each(|byte| *byte |= 0x80);
+        let refusal = if length > 4 { 15 } else { 2 };
+        if refusal == 15 {
+            let mut full = padded.clone();
+            full[length - 1] = 1;
+            forms.push((full, refusal));
+        }
+        forms.push((padded, refusal));
+    }
+    forms
+}
+
 /// Writes one number in a longer form, or with a fifth byte.
 fn stretch_number(draw: &mut Draw, bytes: &mut Vec<u8>) {
     let lasts = bytes.iter().enumerate().filter(|(_, byte)| **byte < 0x80).map(|(place, _)| place);
@@ -242,7 +263,15 @@ fn stretch_number(draw: &mut Draw, bytes: &mut Vec<u8>) {
     }
     let last = draw.pick(&lasts);
     bytes[last] |= 0x80;
-    let more = draw.pick(&[&[0x00][..], &[0x80, 0x00], &[0x80, 0x80, 0x00], &[0x80, 0x80, 0x80, 0x80, 0x01], &[0x01]]);
+    let more = draw.pick(&[
+        &[0x00][..],
+        &[0x80, 0x00],
+        &[0x80, 0x80, 0x00],
+        &[0x80, 0x80, 0x80, 0x00],
+        &[0x80, 0x80, 0x80, 0x80, 0x01],
+        &[0xff, 0xff, 0xff],
+        &[0x01],
+    ]);
     bytes.splice(last + 1..last + 1, more.iter().copied());
 }
 
@@ -339,7 +368,9 @@ pub fn any_bytes(draw: &mut Draw) -> Vec<u8> {
 #[cfg(test)]
 mod tests {
     use super::*;
+    use crate::answer::SHEET_REFUSALS;
     use crate::plain::reader::read_sheet;
+    use std::collections::BTreeSet;
 
     #[test]
     fn drawn_sheets_are_accepted_and_read_back() {
@@ -373,16 +404,29 @@ mod tests {
     }
 
     #[test]
+    fn long_forms_are_padded_or_longer_than_four_bytes() {
+        let forms: [(&[u8], u8); 7] = [
+            (&[0x85, 0x00], 2),
+            (&[0x85, 0x80, 0x00], 2),
+            (&[0x85, 0x80, 0x80, 0x00], 2),
+            (&[0x85, 0x80, 0x80, 0x80, 0x01], 15),
+            (&[0x85, 0x80, 0x80, 0x80, 0x00], 15),
+            (&[0x85, 0x80, 0x80, 0x80, 0x80, 0x01], 15),
+            (&[0x85, 0x80, 0x80, 0x80, 0x80, 0x00], 15),
+        ];
+        assert_eq!(long_forms(5), forms.map(|(bytes, number)| (bytes.to_vec(), number)));
+    }
+
+    #[test]
     fn every_refusal_of_a_sheet_is_met_by_damage() {
-        let mut met = [false; 10];
+        let mut met = BTreeSet::new();
         for seed in 0..20_000 {
             let mut draw = Draw::new("damage", seed);
             let sheet = sheet(&mut draw, Size { atoms: 5, rules: 6, body: 3 });
-            match read_sheet(&damaged(&mut draw, &sheet)) {
-                Ok(_) => met[0] = true,
-                Err(refusal) => met[usize::from(refusal.number)] = true,
+            if let Err(refusal) = read_sheet(&damaged(&mut draw, &sheet)) {
+                met.insert(refusal.number);
             }
         }
-        assert_eq!(met, [true; 10]);
+        assert_eq!(met, BTreeSet::from(SHEET_REFUSALS));
     }
 }

@@ -42,6 +42,7 @@ suite_tests! {
     any_bytes: "any bytes",
     well_formed: "well formed",
     damaged: "damaged",
+    long_numbers: "long numbers",
     limits: "limits",
     subsets: "subsets",
     closed_maps: "closed maps",

@@ -1,7 +1,7 @@
 //! The suites meet every answer that each call can give, and often.
 
 use outside::agreement::{SUITES, hold_seeds};
-use outside::answer::Answer;
+use outside::answer::{Answer, SHEET_REFUSALS};
 use outside::desk::Desk;
 use outside::for_c;
 use outside::plain;
@@ -73,7 +73,7 @@ fn every_answer_of_every_call_is_met() {
         ("rule", &[13, 40, 41]),
     ];
     for (call, tops) in further {
-        let of_sheet = (1..=9).map(|top| (top, 5));
+        let of_sheet = SHEET_REFUSALS.into_iter().map(|top| (u64::from(top), 5));
         let of_call = tops.iter().map(|&top| (top, 100));
         for (top, least) in of_sheet.chain(of_call) {
             let times = met.get(&(call, top)).copied().unwrap_or(0);

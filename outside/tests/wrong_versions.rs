@@ -34,6 +34,15 @@ fn wrong_desks() -> Vec<Wrong> {
         wrong("places 1 at the last byte", &["short strings", "damaged", "any bytes"], &|desk| {
             desk.check = for_c!(check check_misplaced);
         }),
+        wrong("gives 15 for padding", &["long numbers", "short strings", "damaged"], &|desk| {
+            desk.check = for_c!(check check_padding_as_size);
+        }),
+        wrong("gives 2 for size", &["long numbers", "damaged"], &|desk| {
+            desk.solve = for_c!(solve solve_size_as_padding);
+        }),
+        wrong("places 15 at the fourth byte", &["long numbers", "damaged"], &|desk| {
+            desk.check = for_c!(check check_fourth_byte);
+        }),
         wrong("reads past the end", &["damaged", "any bytes", "short strings"], &|desk| desk.check = check_beyond),
         wrong("writes on a refusal", &["short strings", "damaged", "limits"], &|desk| {
             desk.open = for_c!(open open_and_clear)
@@ -175,6 +184,27 @@ fn check_length_last(s: &[u8]) -> u64 {
 fn check_misplaced(s: &[u8]) -> u64 {
     let code = plain::desk_check(s);
     if code >> 40 == 1 && !s.is_empty() { code - 1 } else { code }
+}
+
+fn check_padding_as_size(s: &[u8]) -> u64 {
+    renumbered(plain::desk_check(s), 2, 15)
+}
+
+fn solve_size_as_padding(s: &[u8], map: &mut [u8]) -> u64 {
+    renumbered(plain::desk_solve(s, map), 15, 2)
+}
+
+/// The answer, with one refusal's number exchanged for another.
+fn renumbered(code: u64, old: u8, new: u8) -> u64 {
+    match Answer::of_code(code) {
+        Some(Answer::Refused(Refusal { number, place })) if number == old => refused(new, place),
+        _ => code,
+    }
+}
+
+fn check_fourth_byte(s: &[u8]) -> u64 {
+    let code = plain::desk_check(s);
+    if code >> 40 == 15 { code + 3 } else { code }
 }
 
 /// Takes the eight bytes after the sheet for a part of it.

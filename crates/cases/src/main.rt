@@ -135,6 +135,10 @@ fn show_refusals() {
     show_check(b"01 01 01 01 02:", b"\x01\x01\x01\x01\x02");
     show_check(b"01 02 01 03 02 02 01:", b"\x01\x02\x01\x03\x02\x02\x01");
     show_check(b"01 00 00 00 00 00:", b"\x01\x00\x00\x00\x00\x00");
+    show_check(b"01 FF FF FF 80 00:", b"\x01\xff\xff\xff\x80\x00");
+    show_check(b"80 80 80 80:", b"\x80\x80\x80\x80");
+    show_check(b"80 80 80:", b"\x80\x80\x80");
+    show_check(b"80 80 80 00:", b"\x80\x80\x80\x00");
     show_check(b"01 00 00 00 00:", b"\x01\x00\x00\x00\x00");
 }
 

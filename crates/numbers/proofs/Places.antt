@@ -1,13 +1,12 @@
 -- A reader that starts within the bytes refuses at a place within them, and what it gets ends within them: it looks at a byte only where
 -- there is one, and it refuses at the place where it started or at the bytes' length.
-use Prim.Native.Nat.{ℕ, zero, suc, _+_, _≤_}
+use Prim.Native.Nat.{ℕ, zero, suc, _≤_}
 use mathlib.Core.Path.{_≡_, refl}
-use mathlib.Core.Bool.{Bool, true, false, _&&_}
+use mathlib.Core.Bool.{Bool, true, false}
 use mathlib.Core.List.{List}
 use native.Mathlib.Omega.{arith}
-use lib.ListN.{length, getD}
-use lib.Dec.{ltb, leb, eqb}
-use borrow.Author.Tests.{ltb-true}
+use lib.ListN.{length}
+use lib.Dec.{ltb, leb}
 use Rattle.rules.specs.Limits.{highestRefusal}
 use Rattle.rules.specs.Number.{checkedAtom}
 use Rattle.rules.specs.Sum.{pick}
@@ -15,12 +14,15 @@ use Rattle.rules.specs.declared.Atom.{Atom}
 use Rattle.rules.specs.declared.AtomOr.{AtomOr}
 use Rattle.rules.specs.declared.AtomOr.the-variants.{Is, Not}
 use Rattle.numbers.specs.Answer.{refusal, readThen, atomThen}
-use Rattle.numbers.specs.Number.{groupsFrom, numberAt, withinAt}
+use Rattle.numbers.specs.Number.{numberAt, withinAt}
 use Rattle.numbers.specs.Lists.{atomAt, upTo, inTurn, listAt}
+use Rattle.numbers.specs.shown.Refusals.{NumberRefused, ends, padded, large}
 use Rattle.numbers.specs.declared.Refusal.{Refusal}
 use Rattle.numbers.specs.declared.Span.{Span}
 use Rattle.numbers.specs.declared.Read.{Read}
 use Rattle.numbers.specs.declared.Read.the-variants.{Got, Refused}
+use Rattle.numbers.proofs.number.Most.{number-far}
+use Rattle.numbers.proofs.number.Refusals.{refused-why}
 
 -- a refusal of one of the numbers that there are, at a place up to the last
 pub record Placed (last : ℕ) (why : Refusal) : Type 0 where
@@ -55,22 +57,18 @@ atom-so P other (Is atom) next bad good = good atom
 atom-so P other Not next bad good = bad
 
 module _ (s : List ℕ) where
-  groups-tame : (left first at : ℕ) → first ≤ length s → Tame s (groupsFrom left s first at)
-  unfolding groupsFrom
-  groups-tame zero first at h = refuses _ (placed 2 first (omega arith) h)
-  groups-tame (suc left) first at h =
-      pick-so (Tame s) (ltb at (length s)) _ _
-      (λ l. pick-so (Tame s) (ltb (getD s at 0) 128) _ _
-      (λ b. pick-so (Tame s) (ltb first at && eqb (getD s at 0) 0) _ _
-      (λ z. refuses _ (placed 2 first (omega arith) h))
-      (λ z. gets _ (omega (arith, ltb-true at (length s) l))))
-      (λ b. read-so (Tame s) Refused _ (groups-tame left first (at + 1) h) refuses (λ high k. gets _ k)))
-      (λ l. refuses _ (placed 1 (length s) (omega arith) (omega arith)))
-
   module _ (at : ℕ) (h : at ≤ length s) where
     pub number-tame : Tame s (numberAt s at)
-    unfolding numberAt
-    number-tame = groups-tame 4 at at h
+    number-tame = by (numberAt s at) refl
+      where
+        said : (why : Refusal) → NumberRefused s at why → Placed (length s) why
+        said why (ends count few runs l) = placed 1 (length s) (omega arith) (omega arith)
+        said why (padded count some few runs l o) = placed 2 at (omega arith) h
+        said why (large runs) = placed 15 at (omega arith) h
+
+        by : (a : Read) → numberAt s at ≡ a → Tame s a
+        by (Got p) e = gets p (number-far s at p e .1)
+        by (Refused why) e = refuses why (said why (refused-why s at why e))
 
     pub within-tame : (least most : ℕ) → Tame s (withinAt s least most at)
     unfolding withinAt

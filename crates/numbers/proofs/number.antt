@@ -2,3 +2,4 @@ pub mod Laws
 pub mod Most
 pub mod Encoded
 pub mod Taken
+pub mod Refusals

@@ -1,7 +1,8 @@
 -- "A sheet is a run of whole numbers, each in groups of seven bits, low group first, top bit set on every byte but the last.
 -- A number takes one to four bytes, so 0 to 268,435,455 (FF FF FF 7F), and must be in its shortest form."
--- Refusal 1: "sheet ends inside or before a number that is due", at the sheet's length. 2: "number not shortest, or fourth byte
--- has its top bit set", at its first byte. 4: a count or a weight "outside its limits", at its first byte.
+-- Refusal 1: "sheet ends inside or before a number that is due", at the sheet's length. 2: "a number not in its shortest form", at
+-- its first byte. 15: "a fourth byte with its top bit set", "same place, whatever follows". 4: a count or a weight "outside its
+-- limits", at its first byte.
 use Prim.Native.Nat.{ℕ, zero, suc, _+_, _*_, _%_}
 use mathlib.Core.Bool.{_&&_}
 use mathlib.Core.List.{List}
@@ -19,7 +20,7 @@ higher low high = span (low + 128 * high .value) (high .first) (high .next)
 
 -- the groups from a place on, at most so many, of the number whose first byte is at first
 unfoldable pub groupsFrom : ℕ → List ℕ → ℕ → ℕ → Read
-groupsFrom zero s first at = Refused (refusal 2 first)
+groupsFrom zero s first at = Refused (refusal 15 first)
 groupsFrom (suc left) s first at =
     pick (ltb at (length s))
     (pick (ltb (getD s at 0) 128)

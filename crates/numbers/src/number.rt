@@ -46,7 +46,7 @@ pub fn read_number(s: &[u8], first: usize) -> Read
         scale *= 128;
         at += 1;
     }
-    refused(2, first)
+    refused(15, first)
 }
 
 // The number at a place where one was read before: nothing is tested again.

@@ -12,7 +12,7 @@ use super::search::{first_model, opened};
 use crate::answer::{Answer, Refusal};
 use crate::sheet::{Literal, Rule, Sheet};
 
-/// Checks a sheet: accepted, or a refusal from 1 to 9.
+/// Checks a sheet: accepted, or one of the sheet's own refusals.
 pub fn desk_check(sheet: &[u8]) -> u64 {
     coded(check(sheet))
 }

@@ -8,8 +8,8 @@ const MOST_BYTES: usize = 4;
 /// The number that begins at `place`, and the place after it.
 ///
 /// Refused by 1 at the sheet's length where the sheet ends before the
-/// number does, and by 2 at `place` where the number is not in its shortest
-/// form or its fourth byte has the top bit set.
+/// number does, by 2 at `place` where the number is not in its shortest
+/// form, and by 15 at `place` where its fourth byte has the top bit set.
 pub fn read_number(sheet: &[u8], place: usize) -> Result<(u32, usize), Refusal> {
     let mut value = 0;
     for index in 0..MOST_BYTES {
@@ -22,7 +22,7 @@ pub fn read_number(sheet: &[u8], place: usize) -> Result<(u32, usize), Refusal> 
             return if shortest { Ok((value, place + index + 1)) } else { Err(Refusal { number: 2, place }) };
         }
     }
-    Err(Refusal { number: 2, place })
+    Err(Refusal { number: 15, place })
 }
 
 #[cfg(test)]
@@ -49,11 +49,18 @@ mod tests {
     }
 
     #[test]
-    fn longer_forms_and_longer_numbers_are_refused_at_their_first_byte() {
+    fn longer_forms_are_refused_at_their_first_byte() {
         assert_eq!(read_number(&[0x80, 0x00], 0), refused(2, 0));
         assert_eq!(read_number(&[0x07, 0x81, 0x80, 0x00], 1), refused(2, 1));
+        assert_eq!(read_number(&[0x80, 0x80, 0x80, 0x00], 0), refused(2, 0));
         assert_eq!(read_number(&[0xff, 0xff, 0xff, 0x00], 0), refused(2, 0));
-        assert_eq!(read_number(&[0xff, 0xff, 0xff, 0xff], 0), refused(2, 0));
-        assert_eq!(read_number(&[0x80, 0x80, 0x80, 0x80, 0x01], 0), refused(2, 0));
+    }
+
+    #[test]
+    fn longer_numbers_are_refused_at_their_first_byte_whatever_follows() {
+        assert_eq!(read_number(&[0x80, 0x80, 0x80, 0x80], 0), refused(15, 0));
+        assert_eq!(read_number(&[0x07, 0xff, 0xff, 0xff, 0xff], 1), refused(15, 1));
+        assert_eq!(read_number(&[0x80, 0x80, 0x80, 0x80, 0x01], 0), refused(15, 0));
+        assert_eq!(read_number(&[0x80, 0x80, 0x80, 0x80, 0x00], 0), refused(15, 0));
     }
 }

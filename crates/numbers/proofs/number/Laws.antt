@@ -90,7 +90,7 @@ module _ (s : List ℕ) (k first at sum scale : ℕ) where
     unfolding groupsFrom pick
     more b = simp (opened h, lt-ltb _ _ l, ← g, le-ltb _ _ b, scaled-more)
 
-pub spent : (s : List ℕ) (k first at sum scale : ℕ) → 4 ≤ k → Refused (refusal 2 first) ≡ here s k first at sum scale
+pub spent : (s : List ℕ) (k first at sum scale : ℕ) → 4 ≤ k → Refused (refusal 15 first) ≡ here s k first at sum scale
 unfolding here scaled groupsFrom
 spent s k first at sum scale h =
     let e : 0 ≡ 4 - k = omega arith in

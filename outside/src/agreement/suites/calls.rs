@@ -3,10 +3,12 @@
 use super::Outcome;
 use super::parts::every_part;
 use crate::agreement::compare::Table;
-use crate::desk::{Call, Desk};
+use crate::answer::{Answer, Refusal};
+use crate::desk::{After, Call, Desk};
 use crate::draw::Draw;
-use crate::generator;
+use crate::generator::{self, Size};
 use crate::plain::reader::read_sheet;
+use crate::sheet::{Sheet, basic, bytes_of, choice, constraint, weight};
 
 /// All byte strings of length up to 2 and many of length 3 (all that begin
 /// with the edition); the seed is the first byte.
@@ -27,23 +29,23 @@ pub fn short_strings(desk: &Desk, seed: u64) -> Outcome {
     Ok(())
 }
 
-/// Each call once on a sheet, with a map that must stay as it is where the
-/// sheet is refused.
+const EVERY_CALL: [Call; 7] = [
+    Call::Check,
+    Call::Open,
+    Call::Pin { atom: 1, side: 1 },
+    Call::Solve,
+    Call::Test,
+    Call::Margin { rule: 1 },
+    Call::Rule { rule: 1, part: 0, index: 0 },
+];
+
+/// A map that must stay as it is where the sheet is refused.
+const LENT: [u8; 5] = [0, 1, 2, 3, 9];
+
+/// Each call once on a sheet.
 fn every_call_once(desk: &Desk, sheet: &[u8]) -> Outcome {
     let table = Table { desk, sheet };
-    let map = [0, 1, 2, 3, 9];
-    for call in [
-        Call::Check,
-        Call::Open,
-        Call::Pin { atom: 1, side: 1 },
-        Call::Solve,
-        Call::Test,
-        Call::Margin { rule: 1 },
-        Call::Rule { rule: 1, part: 0, index: 0 },
-    ] {
-        table.same(call, &map)?;
-    }
-    Ok(())
+    EVERY_CALL.into_iter().try_for_each(|call| table.same(call, &LENT).map(drop))
 }
 
 /// Strings of any bytes with a likely start.
@@ -69,6 +71,53 @@ pub fn damaged(desk: &Desk, seed: u64) -> Outcome {
     let sheet = generator::sheet(&mut draw, size);
     let bytes = generator::damaged(&mut draw, &sheet);
     calls_on(desk, &mut draw, &bytes)
+}
+
+/// Every number of a sheet in every wrong form, whole and cut off: what
+/// refuses it, and where, is known without a reader.
+pub fn long_numbers(desk: &Desk, seed: u64) -> Outcome {
+    let mut draw = Draw::new("long numbers", seed);
+    let numbers = match seed {
+        0 => one_of_each().numbers(),
+        _ => generator::sheet(&mut draw, Size { atoms: 5, rules: 4, body: 3 }).numbers(),
+    };
+    for index in 0..numbers.len() {
+        let before = bytes_of(&numbers[..index]);
+        let after = bytes_of(&numbers[index + 1..]);
+        let place = before.len();
+        for (form, number) in generator::long_forms(numbers[index]) {
+            let sheet = [&before[..], &form, &after].concat();
+            every_call_refused(desk, &sheet, Refusal { number, place })?;
+            for end in place + 1..place + form.len() {
+                let cut = Refusal { number: 1, place: end };
+                let cut = if end < place + 4 { cut } else { Refusal { number: 15, place } };
+                every_call_refused(desk, &sheet[..end], cut)?;
+            }
+        }
+    }
+    Ok(())
+}
+
+/// A sheet with every place where a number may stand.
+fn one_of_each() -> Sheet {
+    Sheet {
+        atoms: 4,
+        rules: vec![
+            basic(1, &[2], &[3]),
+            constraint(2, 1, &[3], &[4]),
+            choice(&[3, 4], &[1], &[2]),
+            weight(4, 3, &[(1, 2)], &[(2, 200)]),
+        ],
+        compute_in: vec![1],
+        compute_out: vec![2],
+    }
+}
+
+/// Each call once on a sheet that is refused, with a map that stays as it is.
+fn every_call_refused(desk: &Desk, sheet: &[u8], refusal: Refusal) -> Outcome {
+    let table = Table { desk, sheet };
+    let wanted = After { code: Answer::Refused(refusal).code(), map: LENT.to_vec() };
+    EVERY_CALL.into_iter().try_for_each(|call| table.answers(call, &LENT, &wanted))
 }
 
 /// Sheets near the limits.
