@@ -124,10 +124,19 @@ fn weighed() {
     show_margin_of(sheet, &map, 2);
 }
 
-fn show_refusals() {
+// Refusals 1, 2 and 15: where a number ends.
+fn show_numbers() {
     show_check(b"empty:", b"");
     show_check(b"01 02:", b"\x01\x02");
     show_check(b"80 00:", b"\x80\x00");
+    show_check(b"80 80 80:", b"\x80\x80\x80");
+    show_check(b"80 80 80 00:", b"\x80\x80\x80\x00");
+    show_check(b"80 80 80 80:", b"\x80\x80\x80\x80");
+    show_check(b"01 FF FF FF 80 00:", b"\x01\xff\xff\xff\x80\x00");
+}
+
+// Refusals 3 to 8, and the shortest sheet.
+fn show_sheets() {
     show_check(b"02:", b"\x02");
     show_check(b"01 81 04:", b"\x01\x81\x04");
     show_check(b"01 80 04:", b"\x01\x80\x04");
@@ -135,14 +144,11 @@ fn show_refusals() {
     show_check(b"01 01 01 01 02:", b"\x01\x01\x01\x01\x02");
     show_check(b"01 02 01 03 02 02 01:", b"\x01\x02\x01\x03\x02\x02\x01");
     show_check(b"01 00 00 00 00 00:", b"\x01\x00\x00\x00\x00\x00");
-    show_check(b"01 FF FF FF 80 00:", b"\x01\xff\xff\xff\x80\x00");
-    show_check(b"80 80 80 80:", b"\x80\x80\x80\x80");
-    show_check(b"80 80 80:", b"\x80\x80\x80");
-    show_check(b"80 80 80 00:", b"\x80\x80\x80\x00");
     show_check(b"01 00 00 00 00:", b"\x01\x00\x00\x00\x00");
 }
 
-fn main() {
+// Sheets of at most two atoms.
+fn show_small() {
     show_case(b"no atoms\n", b"\x01\x00\x00\x00\x00");
     show_case(b"1 if 1\n", b"\x01\x01\x01\x01\x01\x01\x01\x00\x00\x00");
     show_case(b"1 if not 1\n", b"\x01\x01\x01\x01\x01\x00\x01\x01\x00\x00");
@@ -151,6 +157,10 @@ fn main() {
         b"\x01\x02\x02\x01\x01\x00\x01\x02\x01\x02\x00\x01\x01\x00\x00",
     );
     show_case(b"choice {1}\n", b"\x01\x01\x01\x03\x01\x01\x00\x00\x00\x00");
+}
+
+fn main() {
+    show_small();
     show_case(
         b"1 if 2; 2 if 1; 3 if not 1\n",
         b"\x01\x03\x03\x01\x01\x01\x02\x00\x01\x02\x01\x01\x00\x01\x03\x00\x01\x01\x00\x00",
@@ -169,5 +179,6 @@ fn main() {
         b"P5 of a lecture by Cabalar\n",
         b"\x01\x08\x08\x01\x01\x01\x03\x01\x02\x01\x02\x00\x01\x01\x01\x03\x00\x00\x01\x04\x01\x05\x01\x07\x01\x05\x01\x04\x01\x07\x01\x06\x00\x01\x04\x01\x07\x00\x01\x03\x01\x08\x01\x07\x00\x00\x00",
     );
-    show_refusals();
+    show_numbers();
+    show_sheets();
 }
