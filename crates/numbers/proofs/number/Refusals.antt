@@ -19,15 +19,15 @@ use Rattle.numbers.specs.declared.Span.{Span}
 use Rattle.numbers.specs.declared.Read.{Read}
 use Rattle.numbers.specs.declared.Read.the-variants.{Got, Refused}
 
-not-refused : {why : Refusal} (p : Span) → Got p ≡ Refused why → ⊥
-not-refused p e = let z : _≡_ {A = ℕ} 0 1 = cc in omega arith
+got-no-refusal : {why : Refusal} (p : Span) → Got p ≡ Refused why → ⊥
+got-no-refusal p e = let z : _≡_ {A = ℕ} 0 1 = cc in omega arith
 
-same-refusal : {why other : Refusal} → Refused why ≡ Refused other → why ≡ other
-same-refusal e = cc
+same-why : {why other : Refusal} → Refused why ≡ Refused other → why ≡ other
+same-why e = cc
 
 read-refused : {why : Refusal} (f : Span → Span) (a : Read) → readThen Refused a (λ p. Got (f p)) ≡ Refused why → a ≡ Refused why
 unfolding readThen
-read-refused f (Got p) e = absurd (not-refused _ e)
+read-refused f (Got p) e = absurd (got-no-refusal _ e)
 read-refused f (Refused other) e = e
 
 module _ (s : List ℕ) (first : ℕ) where
@@ -44,7 +44,7 @@ module _ (s : List ℕ) (first : ℕ) where
       (why : Refusal) (left count at : ℕ) → first + count ≡ at → count + left ≡ 4 → RunsOn s first count
       → groupsFrom left s first at ≡ Refused why → NumberRefused s first why
   unfolding groupsFrom pick
-  from why zero count at e f runs z = subst (NumberRefused s first) (same-refusal z) (large (λ i h. runs i (omega arith)))
+  from why zero count at e f runs z = subst (NumberRefused s first) (same-why z) (large (λ i h. runs i (omega arith)))
   from why (suc left) count at e f runs z =
       here (ltb at (length s)) (ltb (getD s at 0) 128) (ltb first at && eqb (getD s at 0) 0) refl refl refl z
       (λ l b r. from why left (count + 1) (at + 1) (omega arith) (omega arith) (on count at e l b runs) r)
@@ -59,13 +59,13 @@ module _ (s : List ℕ) (first : ℕ) where
           → (at < length s → 128 ≤ getD s at 0 → groupsFrom left s first (at + 1) ≡ Refused why → NumberRefused s first why)
           → NumberRefused s first why
       here false b c p q r z more =
-          subst (NumberRefused s first) (same-refusal z) (ends count (omega arith) runs (omega (arith, ltb-false at (length s) p)))
+          subst (NumberRefused s first) (same-why z) (ends count (omega arith) runs (omega (arith, ltb-false at (length s) p)))
       here true true true p q r z more =
           let l : first < at = ltb-true first at (T-true _ (T-and-left (ltb first at) _ (true-T r))) in
           let o : getD s at 0 ≡ 0 = T-eq (T-and-right (ltb first at) _ (true-T r)) in
-          subst (NumberRefused s first) (same-refusal z)
+          subst (NumberRefused s first) (same-why z)
           (padded count (omega arith) (omega arith) runs (omega (arith, ltb-true at (length s) p)) (ap (λ (x : ℕ). getD s x 0) e ∙ o))
-      here true true false p q r z more = absurd (not-refused _ z)
+      here true true false p q r z more = absurd (got-no-refusal _ z)
       here true false c p q r z more = more (ltb-true at (length s) p) (ltb-false (getD s at 0) 128 q) (read-refused _ _ z)
 
   -- the number at a place is refused only where its bytes say so
