@@ -95,7 +95,7 @@ pub fn refused_sheets() -> Vec<(Vec<u8>, u8, usize)> {
 
 /// A sheet that is refused is refused by every call, before anything that is
 /// wrong with the call's other inputs.
-fn refused_by_every_call(desk: &Desk, sheet: &[u8], refusal: Refusal) -> Result<(), Disagreement> {
+pub fn refused_by_every_call(desk: &Desk, sheet: &[u8], refusal: Refusal) -> Result<(), Disagreement> {
     let table = Table { desk, sheet };
     let map = [9, 3, 0];
     let wanted = refused(refusal.number, refusal.place, &map);

@@ -3,8 +3,9 @@
 use super::Outcome;
 use super::parts::every_part;
 use crate::agreement::compare::Table;
-use crate::answer::{Answer, Refusal};
-use crate::desk::{After, Call, Desk};
+use crate::answer::Refusal;
+use crate::cases::refused_by_every_call;
+use crate::desk::{Call, Desk};
 use crate::draw::Draw;
 use crate::generator::{self, Size};
 use crate::plain::reader::read_sheet;
@@ -29,23 +30,23 @@ pub fn short_strings(desk: &Desk, seed: u64) -> Outcome {
     Ok(())
 }
 
-const EVERY_CALL: [Call; 7] = [
-    Call::Check,
-    Call::Open,
-    Call::Pin { atom: 1, side: 1 },
-    Call::Solve,
-    Call::Test,
-    Call::Margin { rule: 1 },
-    Call::Rule { rule: 1, part: 0, index: 0 },
-];
-
-/// A map that must stay as it is where the sheet is refused.
-const LENT: [u8; 5] = [0, 1, 2, 3, 9];
-
-/// Each call once on a sheet.
+/// Each call once on a sheet, with a map that must stay as it is where the
+/// sheet is refused.
 fn every_call_once(desk: &Desk, sheet: &[u8]) -> Outcome {
     let table = Table { desk, sheet };
-    EVERY_CALL.into_iter().try_for_each(|call| table.same(call, &LENT).map(drop))
+    let map = [0, 1, 2, 3, 9];
+    for call in [
+        Call::Check,
+        Call::Open,
+        Call::Pin { atom: 1, side: 1 },
+        Call::Solve,
+        Call::Test,
+        Call::Margin { rule: 1 },
+        Call::Rule { rule: 1, part: 0, index: 0 },
+    ] {
+        table.same(call, &map)?;
+    }
+    Ok(())
 }
 
 /// Strings of any bytes with a likely start.
@@ -87,11 +88,11 @@ pub fn long_numbers(desk: &Desk, seed: u64) -> Outcome {
         let place = before.len();
         for (form, number) in generator::long_forms(numbers[index]) {
             let sheet = [&before[..], &form, &after].concat();
-            every_call_refused(desk, &sheet, Refusal { number, place })?;
+            refused_by_every_call(desk, &sheet, Refusal { number, place })?;
             for end in place + 1..place + form.len() {
                 let cut = Refusal { number: 1, place: end };
                 let cut = if end < place + 4 { cut } else { Refusal { number: 15, place } };
-                every_call_refused(desk, &sheet[..end], cut)?;
+                refused_by_every_call(desk, &sheet[..end], cut)?;
             }
         }
     }
@@ -111,13 +112,6 @@ fn one_of_each() -> Sheet {
         compute_in: vec![1],
         compute_out: vec![2],
     }
-}
-
-/// Each call once on a sheet that is refused, with a map that stays as it is.
-fn every_call_refused(desk: &Desk, sheet: &[u8], refusal: Refusal) -> Outcome {
-    let table = Table { desk, sheet };
-    let wanted = After { code: Answer::Refused(refusal).code(), map: LENT.to_vec() };
-    EVERY_CALL.into_iter().try_for_each(|call| table.answers(call, &LENT, &wanted))
 }
 
 /// Sheets near the limits.
