@@ -1,4 +1,5 @@
 pub mod Laws
+pub mod Look
 pub mod Most
 pub mod Encoded
 pub mod Taken

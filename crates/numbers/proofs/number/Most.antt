@@ -1,20 +1,21 @@
 -- A number of at most k groups is below 128 to the k, since each group is below 128; so a number that was read is at most the largest.
 use Prim.Native.Nat.{ℕ, zero, suc, _+_, _*_, _^_, _%_, _≤_, _<_}
-use mathlib.Core.Path.{_≡_, refl, ap, _∙_}
-use mathlib.Core.Bool.{Bool, true, false, _&&_}
+use mathlib.Core.Path.{_≡_, ap, _∙_}
+use mathlib.Core.Bool.{false, _&&_}
 use mathlib.Core.List.{List}
 use native.Mathlib.Omega.{arith}
 use native.Mathlib.Nat.{pow-suc, one-le-pow}
 use lib.ListN.{length, getD}
 use lib.Dec.{ltb, eqb, lit<}
-use borrow.Author.Tests.{ltb-true, ltb-false}
+use borrow.Author.Tests.{ltb-false}
 use Rattle.rules.specs.Limits.{numberMost}
-use Rattle.rules.specs.Sum.{pick}
-use Rattle.numbers.specs.Answer.{readThen, span, refusal}
+use Rattle.numbers.specs.Answer.{span}
 use Rattle.numbers.specs.Number.{groupsFrom, numberAt, withinAt}
 use Rattle.numbers.specs.declared.Span.{Span}
+use Rattle.numbers.specs.declared.Read.{Read}
 use Rattle.numbers.specs.declared.Read.the-variants.{Got, Refused}
-use Rattle.numbers.proofs.Answer.{from-read, from-yes, from-no, not-got, same-span}
+use Rattle.numbers.proofs.Answer.{from-read, from-no, not-got, same-span}
+use Rattle.numbers.proofs.number.Look.{Look, atEnd, leftOut, final, further, look}
 
 -- what the groups from a place on can be, where they are a number's: one last group, or one more and the rest
 pub data Groups (s : List ℕ) (left first at : ℕ) (p : Span) : Type 0 where
@@ -26,25 +27,13 @@ pub data Groups (s : List ℕ) (left first at : ℕ) (p : Span) : Type 0 where
       → span (getD s at 0 % 128 + 128 * high .value) (high .first) (high .next) ≡ p → Groups s left first at p
 
 pub groups : (s : List ℕ) (left first at : ℕ) (p : Span) → groupsFrom (suc left) s first at ≡ Got p → Groups s left first at p
-unfolding groupsFrom pick
-groups s left first at p e =
-    let a = from-yes (ltb at (length s)) _ _ (not-got _) e in
-    here (ltb-true _ _ (a .0)) (ltb (getD s at 0) 128) refl (a .1)
+groups s left first at p e = by (groupsFrom (suc left) s first at) (look s left first at) e
   where
-    here :
-        at < length s → (b : Bool) → ltb (getD s at 0) 128 ≡ b
-        → pick b
-        (pick (ltb first at && eqb (getD s at 0) 0) (Refused (refusal 2 first)) (Got (span (getD s at 0) first (at + 1))))
-        (readThen Refused (groupsFrom left s first (at + 1))
-        (λ high. Got (span (getD s at 0 % 128 + 128 * high .value) (high .first) (high .next))))
-        ≡ Got p
-        → Groups s left first at p
-    here l true b z =
-        let g = from-no (ltb first at && eqb (getD s at 0) 0) _ _ (not-got _) z in
-        last l (ltb-true _ _ b) (g .0) (same-span (g .1))
-    here l false b z =
-        let g = from-read Refused _ (groupsFrom left s first (at + 1)) not-got z in
-        more l (ltb-false _ _ b) (g .0) (g .1) (same-span (g .2))
+    by : (a : Read) → Look s left first at a → a ≡ Got p → Groups s left first at p
+    by a (atEnd l) z = absurd (not-got _ z)
+    by a (leftOut l m o) z = absurd (not-got _ z)
+    by a (final l b n) z = last l b n (same-span z)
+    by a (further l b) z = let g = from-read Refused _ (groupsFrom left s first (at + 1)) not-got z in more l b (g .0) (g .1) (same-span (g .2))
 
 pub groups-most : (s : List ℕ) (left first at : ℕ) (p : Span) → groupsFrom left s first at ≡ Got p → p .value < 128 ^ left
 unfolding groupsFrom

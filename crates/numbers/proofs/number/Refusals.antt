@@ -1,23 +1,22 @@
 -- A number is refused exactly where its bytes say so, by the number and at the place that they say: the groups are read one after
 -- another for as long as the top bit is set, and at most four of them.
-use Prim.Native.Nat.{ℕ, zero, suc, _+_, _%_, _≤_, _<_}
+use Prim.Native.Nat.{ℕ, zero, suc, _+_, _≤_, _<_}
 use mathlib.Core.Path.{_≡_, refl, ap, _∙_, subst}
 use mathlib.Core.Logic.{⊎-elim}
-use mathlib.Core.Bool.{Bool, true, false, _&&_}
 use mathlib.Core.List.{List}
 use native.Mathlib.Omega.{arith}
 use lib.ListN.{length, getD}
-use lib.Dec.{ltb, eqb}
-use borrow.Author.Tests.{lt-ltb, le-ltb, ltb-true, ltb-false}
+use borrow.Author.Tests.{lt-ltb, le-ltb}
 use Rattle.rules.specs.Sum.{pick}
-use Rattle.rules.proofs.Tests.{T-true, true-T, T-eq, T-and-left, T-and-right, below?}
-use Rattle.numbers.specs.Answer.{readThen, refusal, span}
-use Rattle.numbers.specs.Number.{groupsFrom, numberAt, higher}
+use Rattle.rules.proofs.Tests.{below?}
+use Rattle.numbers.specs.Answer.{readThen, refusal}
+use Rattle.numbers.specs.Number.{groupsFrom, numberAt}
 use Rattle.numbers.specs.shown.Refusals.{RunsOn, NumberRefused, ends, padded, large}
 use Rattle.numbers.specs.declared.Refusal.{Refusal}
 use Rattle.numbers.specs.declared.Span.{Span}
 use Rattle.numbers.specs.declared.Read.{Read}
 use Rattle.numbers.specs.declared.Read.the-variants.{Got, Refused}
+use Rattle.numbers.proofs.number.Look.{Look, atEnd, leftOut, final, further, look}
 
 got-no-refusal : {why : Refusal} (p : Span) → Got p ≡ Refused why → ⊥
 got-no-refusal p e = let z : _≡_ {A = ℕ} 0 1 = cc in omega arith
@@ -43,30 +42,22 @@ module _ (s : List ℕ) (first : ℕ) where
   from :
       (why : Refusal) (left count at : ℕ) → first + count ≡ at → count + left ≡ 4 → RunsOn s first count
       → groupsFrom left s first at ≡ Refused why → NumberRefused s first why
-  unfolding groupsFrom pick
+  unfolding groupsFrom
   from why zero count at e f runs z = subst (NumberRefused s first) (same-why z) (large (λ i h. runs i (omega arith)))
   from why (suc left) count at e f runs z =
-      here (ltb at (length s)) (ltb (getD s at 0) 128) (ltb first at && eqb (getD s at 0) 0) refl refl refl z
+      by (groupsFrom (suc left) s first at) (look s left first at) z
       (λ l b r. from why left (count + 1) (at + 1) (omega arith) (omega arith) (on count at e l b runs) r)
     where
-      here :
-          (a b c : Bool) → ltb at (length s) ≡ a → ltb (getD s at 0) 128 ≡ b → (ltb first at && eqb (getD s at 0) 0) ≡ c
-          → pick a
-          (pick b (pick c (Refused (refusal 2 first)) (Got (span (getD s at 0) first (at + 1))))
-          (readThen Refused (groupsFrom left s first (at + 1)) (λ high. Got (higher (getD s at 0 % 128) high))))
-          (Refused (refusal 1 (length s)))
-          ≡ Refused why
+      by :
+          (a : Read) → Look s left first at a → a ≡ Refused why
           → (at < length s → 128 ≤ getD s at 0 → groupsFrom left s first (at + 1) ≡ Refused why → NumberRefused s first why)
           → NumberRefused s first why
-      here false b c p q r z more =
-          subst (NumberRefused s first) (same-why z) (ends count (omega arith) runs (omega (arith, ltb-false at (length s) p)))
-      here true true true p q r z more =
-          let l : first < at = ltb-true first at (T-true _ (T-and-left (ltb first at) _ (true-T r))) in
-          let o : getD s at 0 ≡ 0 = T-eq (T-and-right (ltb first at) _ (true-T r)) in
+      by a (atEnd l) z more = subst (NumberRefused s first) (same-why z) (ends count (omega arith) runs (omega arith))
+      by a (leftOut l m o) z more =
           subst (NumberRefused s first) (same-why z)
-          (padded count (omega arith) (omega arith) runs (omega (arith, ltb-true at (length s) p)) (ap (λ (x : ℕ). getD s x 0) e ∙ o))
-      here true true false p q r z more = absurd (got-no-refusal _ z)
-      here true false c p q r z more = more (ltb-true at (length s) p) (ltb-false (getD s at 0) 128 q) (read-refused _ _ z)
+          (padded count (omega arith) (omega arith) runs (omega arith) (ap (λ (x : ℕ). getD s x 0) e ∙ o))
+      by a (final l b n) z more = absurd (got-no-refusal _ z)
+      by a (further l b) z more = more l b (read-refused _ _ z)
 
   -- the number at a place is refused only where its bytes say so
   pub refused-why : (why : Refusal) → numberAt s first ≡ Refused why → NumberRefused s first why
