@@ -4,7 +4,7 @@
 use crate::draw::Draw;
 use crate::sheet::{
     Kind, Literal, MOST_ATOMS, MOST_BYTES, MOST_NUMBER, MOST_RULES, MOST_WEIGHT, Rule, Sheet, basic, bytes_of, choice,
-    number_bytes,
+    constraint, number_bytes, weight as weight_rule,
 };
 
 /// Upper ends for a sheet: atoms, rules, and the usual body length.
@@ -92,6 +92,30 @@ pub fn sheet_of_length(draw: &mut Draw, length: usize) -> Sheet {
         assert!(sheet.rules.len() < 2000, "few rules are needed");
     }
     sheet
+}
+
+/// A sheet whose atoms, bounds and weights lie about 127, the greatest number
+/// that one byte can say.
+pub fn about_one_byte(draw: &mut Draw) -> Sheet {
+    let atoms = draw.between(126, 131);
+    let list = |draw: &mut Draw| {
+        let mut list = draw.subset(2, 3);
+        list.extend((124..=atoms).filter(|_| draw.chance(2, 3)));
+        list
+    };
+    let weighed = |draw: &mut Draw| {
+        let list = list(draw);
+        list.iter().map(|&atom| (atom, draw.pick(&[0, 1, 126, 127, 128, 129, 16_384]))).collect::<Vec<_>>()
+    };
+    let head = |draw: &mut Draw| draw.between(125, atoms);
+    let bound = |draw: &mut Draw| draw.pick(&[0, 126, 127, 128, 129]);
+    let rules = vec![
+        choice(&list(draw), &list(draw), &[]),
+        basic(head(draw), &list(draw), &list(draw)),
+        constraint(head(draw), bound(draw), &list(draw), &list(draw)),
+        weight_rule(head(draw), bound(draw), &weighed(draw), &weighed(draw)),
+    ];
+    Sheet { atoms, rules, compute_in: Vec::new(), compute_out: list(draw) }
 }
 
 /// How a sheet's numbers are drawn.

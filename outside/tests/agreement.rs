@@ -43,6 +43,7 @@ suite_tests! {
     well_formed: "well formed",
     damaged: "damaged",
     long_numbers: "long numbers",
+    one_byte: "one byte",
     limits: "limits",
     subsets: "subsets",
     closed_maps: "closed maps",

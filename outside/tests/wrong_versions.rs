@@ -34,6 +34,9 @@ fn wrong_desks() -> Vec<Wrong> {
         wrong("places 1 at the last byte", &["short strings", "damaged", "any bytes"], &|desk| {
             desk.check = for_c!(check check_misplaced);
         }),
+        wrong("takes 128 for one byte", &["one byte", "large"], &|desk| {
+            desk.check = for_c!(check check_128_straight);
+        }),
         wrong("gives 15 for padding", &["long numbers", "short strings", "damaged"], &|desk| {
             desk.check = for_c!(check check_padding_as_size);
         }),
@@ -184,6 +187,22 @@ fn check_length_last(s: &[u8]) -> u64 {
 fn check_misplaced(s: &[u8]) -> u64 {
     let code = plain::desk_check(s);
     if code >> 40 == 1 && !s.is_empty() { code - 1 } else { code }
+}
+
+/// As if a first byte of 128 were a whole number: 128.
+fn check_128_straight(s: &[u8]) -> u64 {
+    let mut read = Vec::new();
+    let mut rest = s;
+    while let Some(&first) = rest.first() {
+        let long = rest.iter().take_while(|&&byte| byte >= 128).count();
+        let length = if first == 128 { 1 } else { rest.len().min(long + 1) };
+        read.extend(&rest[..length]);
+        if first == 128 {
+            read.push(1);
+        }
+        rest = &rest[length..];
+    }
+    plain::desk_check(&read)
 }
 
 fn check_padding_as_size(s: &[u8]) -> u64 {

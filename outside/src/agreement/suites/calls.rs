@@ -99,6 +99,26 @@ pub fn long_numbers(desk: &Desk, seed: u64) -> Outcome {
     Ok(())
 }
 
+/// Sheets whose numbers lie about the greatest that one byte can say, as they
+/// are, with each byte exchanged for one about 128, and cut off at each.
+pub fn one_byte(desk: &Desk, seed: u64) -> Outcome {
+    let mut draw = Draw::new("one byte", seed);
+    let sheet = generator::about_one_byte(&mut draw).bytes();
+    calls_on(desk, &mut draw, &sheet)?;
+    let map = vec![0; 140];
+    for place in 0..sheet.len() {
+        for byte in [0x00, 0x7e, 0x7f, 0x80, 0x81] {
+            let mut other = sheet.clone();
+            other[place] = byte;
+            let table = Table { desk, sheet: &other };
+            table.same(Call::Check, &map)?;
+            table.same(Call::Open, &map)?;
+        }
+        Table { desk, sheet: &sheet[..place] }.same(Call::Check, &map)?;
+    }
+    Ok(())
+}
+
 /// A sheet with every place where a number may stand.
 fn one_of_each() -> Sheet {
     Sheet {
