@@ -11,7 +11,8 @@ use Rattle.rules.specs.Rule.{Rule, Sheet, one, atomsOf}
 use Rattle.sheet.specs.Meaning.{sheetMeant}
 use Rattle.sheet.specs.shown.Encode.{rulesSize}
 use Rattle.sheet.specs.declared.Outline.{Outline}
-use Rattle.sheet.proofs.Sound.{Sound, each-sound}
+use Rattle.numbers.specs.shown.Encode.{none}
+use Rattle.sheet.proofs.Sound.{Sound, each-sound, choice-sound}
 use Rattle.sheet.proofs.rule.Apart.{ones-atoms}
 use Rattle.sheet.proofs.sheet.Ran.{SheetRan, sheet-ran}
 use Rattle.table.specs.inner.Words.{rowWidth, pairWidth}
@@ -19,7 +20,6 @@ use Rattle.table.specs.inner.Rows.{rowRule, tableRules, tableSheet, Row}
 use Rattle.decode.specs.inner.Rows.{firstPair, listsRule, withRules, TableRoom}
 use Rattle.decode.specs.inner.Decode.{tableWords, allRows, Decodable, Decoded}
 use Rattle.decode.proofs.rows.Laws.{rules-long}
-use Rattle.decode.proofs.rows.Meant.{lists-sound}
 use Rattle.decode.proofs.rows.Written.{RowStands, each-stands, rows-written, next-written}
 use Rattle.decode.proofs.Laid.{written-row}
 
@@ -54,13 +54,17 @@ module _ (s : List ℕ) (o : Outline) (c : List ℕ) (ready : Decodable s o c) w
         few = omega (arith, ran .count, ran .far, ran .short);
       }
 
+  lists-sound : Sound (o .atoms) (listsRule sh)
+  unfolding sheetMeant
+  lists-sound = choice-sound (o .atoms) (ran .wellFormed .atoms) [] _ _ none (ran .wellFormed .computeIn) (ran .wellFormed .computeOut)
+
   row-sound : (r : Rule) → List·Memᴰ r (allRows sh) → Sound (o .atoms) r
   unfolding sheetMeant
   row-sound r m =
       ⊎-elim
       (λ (k : List·Memᴰ r (sh .rules)). each-sound (o .atoms) (ran .wellFormed .atoms) (ran .wellFormed .rules) k)
       (λ (k : List·Memᴰ r (listsRule sh ∷ [])).
-      subst (Sound (o .atoms)) (sym (List·Memᴰ·eq-of-singleton k)) (lists-sound s o (ready .accepted)))
+      subst (Sound (o .atoms)) (sym (List·Memᴰ·eq-of-singleton k)) lists-sound)
       (List·Memᴰ·append-cases (sh .rules) m)
 
   module _ {d : List ℕ} (code : d ≡ withRules c 0 (firstPair (o .rules .value)) (allRows sh)) where

@@ -1,44 +1,66 @@
 -- After the rules the compute lists are written as one rule more, and the row that ends them: then the table is whole.
 use Prim.Native.Nat.{ℕ, _+_}
-use mathlib.Core.Path.{_≡_, sym, _∙_, ap, subst}
+use mathlib.Core.Path.{_≡_, sym, _∙_, ap}
 use mathlib.Core.List.{List, [], _∷_}
-use Rattle.rules.specs.Rule.{Rule}
-use Rattle.numbers.specs.declared.Refusal.{Refusal}
+use native.Mathlib.Omega.{arith}
+use Rattle.rules.specs.Limits.{numberMost}
+use Rattle.rules.specs.Rule.{Rule, kindNumber, choice}
+use Rattle.numbers.specs.Answer.{span}
 use Rattle.numbers.specs.declared.Span.{Span}
-use Rattle.numbers.specs.declared.Read.{Read}
-use Rattle.numbers.specs.declared.Read.the-variants.{Got, Refused}
-use Rattle.sheet.specs.Meaning.{ruleMeant, sheetMeant}
+use Rattle.sheet.specs.Meaning.{sheetMeant}
+use Rattle.sheet.specs.shown.Encode.{rulesSize}
 use Rattle.sheet.specs.declared.Outline.{Outline}
-use Rattle.sheet.specs.declared.SheetRule.{SheetRule}
-use Rattle.decode.specs.inner.Rows.{firstPair, listsRead, listsRule, withRules, TableRoom, RowsLeft, RuleAsks, RulePut}
-use Rattle.decode.specs.inner.Decode.{allRows, Decodable, WritesRules, Decodes}
-use Rattle.decode.proofs.rows.Left.{rule-asks, left-turn}
-use Rattle.decode.proofs.rows.Meant.{lists-rule, lists-meant}
+use Rattle.sheet.proofs.sheet.Ran.{SheetParts, parts}
+use Rattle.table.specs.inner.Words.{rowWidth, pairWidth}
+use Rattle.decode.specs.inner.Taken.{ruleOf}
+use Rattle.decode.specs.inner.Rows.{firstPair, listsRule, withRules, TableRoom, RowsLeft, RestAsks, RestPut}
+use Rattle.decode.specs.inner.Decode.{allRows, Decodable, WritesRules, Decoded}
+use Rattle.decode.proofs.Taken.{lists-taken}
+use Rattle.decode.proofs.rows.Left.{room-one, left-turn}
+use Rattle.decode.proofs.rows.Rule.{headless}
 use Rattle.decode.proofs.Decoded.{decoded}
 
-module _ {s : List ℕ} {o : Outline} {c : List ℕ} (ready : Decodable s o c) {c₁ : List ℕ} {r : Read} (wrote : WritesRules s o c c₁ r) where
-  pub none-refused : (why : Refusal) {d : List ℕ} → r ≡ Refused why → Decodes s o c d r
-  none-refused why e = absurd (subst (λ (x : Read). WritesRules s o c c₁ x) e wrote .wrote)
+module _ {s : List ℕ} {o : Outline} {c : List ℕ} (ready : Decodable s o c) {c₁ : List ℕ} (rules : Span) (wrote : WritesRules s o c c₁ rules) where
+  -- where the bound of a rule would end, the lists begin
+  abbrev none : Span
+  none = span 0 (rules .next) (rules .next)
 
-  module _ (rules : Span) (e : r ≡ Got rules) (x : SheetRule) (lists : x ≡ listsRead o) where
-    left :
-        RowsLeft c (firstPair (o .rules .value)) (allRows (sheetMeant s o)) c₁ (o .rules .value) (rules .value)
-        (listsRule (sheetMeant s o) ∷ [])
-    left = subst (λ (y : Read). WritesRules s o c c₁ y) e wrote .wrote
+  abbrev lists : Rule
+  lists = ruleOf s (kindNumber choice) [] none
 
-    next : (listsRule (sheetMeant s o) ∷ []) ≡ ruleMeant s x ∷ []
-    next = ap (λ (y : Rule). y ∷ []) (sym (ap (ruleMeant s) lists ∙ lists-rule s o (ready .accepted)))
+  read : SheetParts s o
+  read = parts s o (ready .accepted)
 
-    pub lists-asks : RuleAsks s x c₁ (o .rules .value) (rules .value)
-    lists-asks = rule-asks left s x next (rw lists (lists-meant s o (ready .accepted)))
+  lists-are : (listsRule (sheetMeant s o) ∷ []) ≡ lists ∷ []
+  unfolding sheetMeant
+  lists-are =
+      ap (λ (r : Rule). r ∷ [])
+      (sym
+      (ap (λ (p : ℕ). ruleOf s (kindNumber choice) [] (span 0 p p)) (wrote .place)
+      ∙ lists-taken s (o .atoms) (o .rules .next) (o .ins) (o .outs) (read .fifth) (read .sixth) .rule))
 
-    module _ {d : List ℕ} {k : ℕ} (written : RulePut s x c₁ (o .rules .value) (rules .value) d k) where
-      none-left :
-          RowsLeft c (firstPair (o .rules .value)) (allRows (sheetMeant s o)) d (o .rules .value + 1) k []
-      none-left = left-turn left s x next written
+  room : TableRoom c₁ (o .rules .value) (rules .value) (lists ∷ [])
+  room = room-one (wrote .left) lists lists-are
 
-      pub ending-room : TableRoom d (o .rules .value + 1) k []
-      ending-room = none-left .room
+  pub lists-ask : RestAsks s (kindNumber choice) none c₁ (o .rules .value) (rules .value) (rules .value)
+  unfolding numberMost rulesSize rowWidth pairWidth
+  lists-ask =
+      let h = room in
+      record {
+        row = omega (arith, h .rows, h .pairs);
+        order = omega arith;
+        pairs = omega (arith, h .pairs);
+        few = omega (arith, h .few);
+        kindMost = omega arith;
+        boundMost = omega arith;
+      }
 
-      pub ended : {f : List ℕ} → f ≡ withRules d (o .rules .value + 1) k [] → Decodes s o c f (Got rules)
-      ended code = record { decoded = decoded s o c ready (code ∙ none-left .code) }
+  module _ {d : List ℕ} (end : Span) (put : RestPut s (kindNumber choice) none c₁ (o .rules .value) (rules .value) (rules .value) d end) where
+    none-left : RowsLeft c (firstPair (o .rules .value)) (allRows (sheetMeant s o)) d (o .rules .value + 1) (end .value) []
+    none-left = let w = headless s none c₁ (o .rules .value) (rules .value) end put in left-turn (wrote .left) lists lists-are (w .0) (w .1)
+
+    pub ending-room : TableRoom d (o .rules .value + 1) (end .value) []
+    ending-room = none-left .room
+
+    pub ended : {f : List ℕ} → f ≡ withRules d (o .rules .value + 1) (end .value) [] → Decoded s o c f
+    ended code = decoded s o c ready (code ∙ none-left .code)

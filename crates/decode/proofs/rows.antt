@@ -1,6 +1,6 @@
 pub mod Laws
 pub mod Written
+pub mod Body
 pub mod Rule
-pub mod Meant
 pub mod Left
 pub mod Writing

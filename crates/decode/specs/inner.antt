@@ -1,4 +1,5 @@
 pub mod Words
+pub mod Taken
 pub mod Pairs
 pub mod Rows
 pub mod Decode

@@ -1,14 +1,19 @@
 // Lists of atoms and literals, written as pairs of words.
+ghost use Prim.Native.Nat.{_≤_, _*_, _-_};
+ghost use mathlib.Core.Path.{_≡_};
 ghost use mathlib.Core.List.{[], _∷_};
+ghost use lib.ListN.{length};
 ghost use Rattle.rules.specs.Rule.{ones, weighted};
 ghost use Rattle.numbers.specs.Lists.{numbersFrom};
-ghost use Rattle.sheet.specs.Meaning.{paired};
-ghost use Rattle.decode.specs.inner.Pairs.{PairFits, PairsFit, PairsCopied};
+ghost use Rattle.table.specs.inner.Words.{pairWidth};
+ghost use Rattle.decode.specs.inner.Taken.{numbersPast, listTaken, listPast};
+ghost use Rattle.decode.specs.inner.Pairs.{PairFits, PairsFit, PairsCopied, withWeights};
 use super::words::set_word;
+use numbers::Span;
 use numbers::take_number;
 use table::PAIR;
 
-// One atom and its weight; and the place after them.
+// One atom and its weight; and the pair after them.
 pub(crate) fn write_pair(code: &mut [u32], j: usize, atom: usize, weight: usize) -> usize
     requires { ⌜ PairFits (now code) j atom weight ⌝ }
     ensures { λ r. ⌜ PairsCopied (now (code .entry)) j (weighted atom weight ∷ []) (now (code .exit)) r ⌝ }
@@ -18,16 +23,10 @@ pub(crate) fn write_pair(code: &mut [u32], j: usize, atom: usize, weight: usize)
     j + 1
 }
 
-// So many atoms that stand at a place of the sheet, each with weight 1; and the place after them.
-pub(crate) fn copy_atoms(
-    s: &[u8],
-    count: usize,
-    first: usize,
-    code: &mut [u32],
-    from: usize,
-) -> usize
+// So many atoms that stand at a place of the sheet, each with weight 1; and the pair and the place after them.
+fn copy_atoms(s: &[u8], count: usize, first: usize, code: &mut [u32], from: usize) -> Span
     requires { ⌜ PairsFit (now code) from (ones (numbersFrom count (now s) first)) ⌝ }
-    ensures { λ r. ⌜ PairsCopied (now (code .entry)) from (ones (numbersFrom count (now (s .entry)) first)) (now (code .exit)) r ⌝ }
+    ensures { λ r. ⌜ PairsCopied (now (code .entry)) from (ones (numbersFrom count (now (s .entry)) first)) (now (code .exit)) (r .value) × (r .next ≡ numbersPast count (now (s .entry)) first) ⌝ }
 {
     let mut at = first;
     let mut j = from;
@@ -36,30 +35,40 @@ pub(crate) fn copy_atoms(
         j = write_pair(code, j, atom.value, 1);
         at = atom.next;
     }
-    j
+    Span {
+        value: j,
+        first,
+        next: at,
+    }
 }
 
-// So many atoms that stand at one place, each with its weight, which stand at another; and the place after them.
-pub(crate) fn copy_weighed(
+// The list at a place of the sheet, each atom with weight 1; and the pair and the place after it.
+pub(crate) fn copy_list(s: &[u8], at: usize, code: &mut [u32], from: usize) -> Span
+    requires { ⌜ PairsFit (now code) from (ones (listTaken (now s) at)) ⌝ }
+    ensures { λ r. ⌜ PairsCopied (now (code .entry)) from (ones (listTaken (now (s .entry)) at)) (now (code .exit)) (r .value) × (r .next ≡ listPast (now (s .entry)) at) ⌝ }
+{
+    let count = take_number(s, at);
+    copy_atoms(s, count.value, count.next, code, from)
+}
+
+// The weights that stand at a place of the sheet, over those of the pairs from one to before another; and the place after them.
+pub(crate) fn copy_weights(
     s: &[u8],
-    count: usize,
-    atoms: usize,
-    weights: usize,
+    first: usize,
     code: &mut [u32],
     from: usize,
+    to: usize,
 ) -> usize
-    requires { ⌜ PairsFit (now code) from (paired (numbersFrom count (now s) atoms) (numbersFrom count (now s) weights)) ⌝ }
-    ensures { λ r. ⌜ PairsCopied (now (code .entry)) from (paired (numbersFrom count (now (s .entry)) atoms) (numbersFrom count (now (s .entry)) weights)) (now (code .exit)) r ⌝ }
+    requires { ⌜ (from ≤ to) × (pairWidth * to ≤ length (now code)) ⌝ }
+    ensures { λ r. ⌜ (now (code .exit) ≡ withWeights (now (code .entry)) from (numbersFrom (to - from) (now (s .entry)) first)) × (r ≡ numbersPast (to - from) (now (s .entry)) first) ⌝ }
 {
-    let mut at = atoms;
-    let mut by = weights;
+    let mut at = first;
     let mut j = from;
-    for _ in 0..count {
-        let atom = take_number(s, at);
-        let weight = take_number(s, by);
-        j = write_pair(code, j, atom.value, weight.value);
-        at = atom.next;
-        by = weight.next;
+    while j < to {
+        let weight = take_number(s, at);
+        set_word(code, PAIR * j + 1, weight.value);
+        at = weight.next;
+        j += 1;
     }
-    j
+    at
 }

@@ -3,64 +3,100 @@ ghost use Prim.Native.Nat.{_≤_};
 ghost use mathlib.Core.Path.{_≡_};
 ghost use mathlib.Core.List.{[]};
 ghost use Rattle.rules.specs.Limits.{rulesMost};
-ghost use Rattle.rules.specs.Rule.{kindNumber, ones};
+ghost use Rattle.rules.specs.Rule.{ones};
+ghost use Rattle.decode.specs.inner.Taken.{headsTaken, headsPast, hasBound, boundTaken, needTaken};
 ghost use Rattle.decode.specs.inner.Pairs.{PairsFit, PairsCopied};
-ghost use Rattle.decode.specs.inner.Rows.{kindRead, headsRead, literalsRead, HeadsAsk, Weights, RowAsks, RuleAsks, RulePut, TableRoom, withRow, withRules, firstPair, listsRead, ListsAsk};
+ghost use Rattle.decode.specs.inner.Rows.{BodyAsks, BodyPut, RestAsks, RestPut, RowAsks, RuleAsks, RulePut, TableRoom, withRow, withRules, firstPair};
 ghost use Rattle.decode.specs.inner.Decode.{Decodable, WritesRules};
-use super::pairs::copy_atoms;
-use super::pairs::copy_weighed;
+use super::pairs::copy_list;
+use super::pairs::copy_weights;
 use super::pairs::write_pair;
 use super::words::set_word;
-use numbers::Read;
 use numbers::Span;
-use rules::kind::BASIC;
+use numbers::take_number;
 use rules::kind::CHOICE;
 use rules::kind::CONSTRAINT;
 use rules::kind::WEIGHT;
-use sheet::Literals;
 use sheet::Outline;
-use sheet::RuleRead;
-use sheet::SheetKind;
-use sheet::SheetRule;
-use sheet::read_rule;
 use table::ROW;
 
-// The number by which a sheet writes this kind.
-fn kind_number(kind: SheetKind) -> usize
-    ensures { λ r. ⌜ r ≡ kindNumber (kindRead kind) ⌝ }
+// Where a body was written: the pair of its first negated literal, and the pair after its last; and the place after it on the sheet.
+pub(crate) struct BodyEnds {
+    pub negatives: usize,
+    pub end: usize,
+    pub next: usize,
+}
+
+// The heads of a rule of this kind, as pairs from j on; and the pair and the place after them.
+fn write_heads(s: &[u8], kind: usize, at: usize, code: &mut [u32], j: usize) -> Span
+    requires { ⌜ PairsFit (now code) j (ones (headsTaken (now s) kind at)) ⌝ }
+    ensures { λ r. ⌜ PairsCopied (now (code .entry)) j (ones (headsTaken (now (s .entry)) kind at)) (now (code .exit)) (r .value) × (r .next ≡ headsPast (now (s .entry)) kind at) ⌝ }
 {
-    match kind {
-        SheetKind::Basic(_) => BASIC,
-        SheetKind::Constraint(_, _) => CONSTRAINT,
-        SheetKind::Choice(_) => CHOICE,
-        SheetKind::Weight(_, _) => WEIGHT,
+    if kind == CHOICE {
+        return copy_list(s, at, code, j);
+    }
+    let head = take_number(s, at);
+    Span {
+        value: write_pair(code, j, head.value, 1),
+        first: at,
+        next: head.next,
     }
 }
 
-// The heads of a rule of this kind, as pairs from j on; and the place after them.
-fn copy_heads(s: &[u8], kind: SheetKind, code: &mut [u32], j: usize) -> usize
-    requires { ⌜ HeadsAsk (now s) kind (now code) j ⌝ }
-    ensures { λ r. ⌜ PairsCopied (now (code .entry)) j (ones (headsRead (now (s .entry)) kind)) (now (code .exit)) r ⌝ }
+fn has_bound(kind: usize) -> bool
+    ensures { λ r. ⌜ r ≡ hasBound kind ⌝ }
 {
-    match kind {
-        SheetKind::Basic(head) => write_pair(code, j, head.number(), 1),
-        SheetKind::Constraint(head, _) => write_pair(code, j, head.number(), 1),
-        SheetKind::Choice(heads) => copy_atoms(s, heads.value, heads.first, code, j),
-        SheetKind::Weight(head, _) => write_pair(code, j, head.number(), 1),
+    if kind == CONSTRAINT {
+        true
+    } else {
+        kind == WEIGHT
     }
 }
 
-// The literals of one sign of a rule, as pairs from j on; and the place after them.
-fn copy_literals(s: &[u8], literals: Literals, code: &mut [u32], j: usize) -> usize
-    requires { ⌜ Weights literals × PairsFit (now code) j (literalsRead (now s) literals) ⌝ }
-    ensures { λ r. ⌜ PairsCopied (now (code .entry)) j (literalsRead (now (s .entry)) literals) (now (code .exit)) r ⌝ }
+// The bound at a place, where a rule of this kind has one.
+fn take_bound(s: &[u8], kind: usize, at: usize) -> Span
+    ensures { λ r. ⌜ r ≡ boundTaken (now (s .entry)) kind at ⌝ }
 {
-    let atoms = literals.atoms;
-    let weights = literals.weights;
-    if weights.value == 0 {
-        return copy_atoms(s, atoms.value, atoms.first, code, j);
+    if has_bound(kind) {
+        return take_number(s, at);
     }
-    copy_weighed(s, atoms.value, atoms.first, weights.first, code, j)
+    Span {
+        value: 0,
+        first: at,
+        next: at,
+    }
+}
+
+// The need of a rule of this kind, with this bound, over a body of this length.
+fn need(kind: usize, bound: usize, length: usize) -> usize
+    ensures { λ r. ⌜ r ≡ needTaken kind bound length ⌝ }
+{
+    if has_bound(kind) { bound } else { length }
+}
+
+// The body at a place, weighed or not, as pairs from j on.
+fn write_body(s: &[u8], weighs: bool, at: usize, code: &mut [u32], j: usize) -> BodyEnds
+    requires { ⌜ BodyAsks (now s) weighs at (now code) j ⌝ }
+    ensures { λ r. ⌜ BodyPut (now (s .entry)) weighs at (now (code .entry)) j (now (code .exit)) r ⌝ }
+{
+    let positive = copy_list(s, at, code, j);
+    let negated = copy_list(s, positive.next, code, positive.value);
+    let negatives = positive.value;
+    let end = negated.value;
+    if weighs {
+        let above = copy_weights(s, negated.next, code, j, negatives);
+        let next = copy_weights(s, above, code, negatives, end);
+        return BodyEnds {
+            negatives,
+            end,
+            next,
+        };
+    }
+    BodyEnds {
+        negatives,
+        end,
+        next: negated.next,
+    }
 }
 
 fn write_row(
@@ -82,54 +118,40 @@ fn write_row(
     set_word(code, ROW * i + 4, negatives);
 }
 
-// A rule that was read, as row i and as pairs from j on; and the place after them.
-pub(crate) fn write_rule(s: &[u8], rule: SheetRule, code: &mut [u32], i: usize, j: usize) -> usize
-    requires { ⌜ RuleAsks (now s) rule (now code) i j ⌝ }
-    ensures { λ r. ⌜ RulePut (now (s .entry)) rule (now (code .entry)) i j (now (code .exit)) r ⌝ }
+// What comes after the heads and the bound of a rule: its body, as pairs from j on, and then its row; and the pair and the place after
+// the rule.
+pub(crate) fn write_rest(
+    s: &[u8],
+    kind: usize,
+    bound: Span,
+    code: &mut [u32],
+    i: usize,
+    heads: usize,
+    j: usize,
+) -> Span
+    requires { ⌜ RestAsks (now s) kind bound (now code) i heads j ⌝ }
+    ensures { λ r. ⌜ RestPut (now (s .entry)) kind bound (now (code .entry)) i heads j (now (code .exit)) r ⌝ }
 {
-    let kind = rule.kind;
-    let positive = rule.positive;
-    let negated = rule.negated;
-    let positives = copy_heads(s, kind, code, j);
-    let negatives = copy_literals(s, positive, code, positives);
-    let end = copy_literals(s, negated, code, negatives);
-    write_row(
-        code,
-        i,
-        kind_number(kind),
-        rule.need,
-        j,
-        positives,
-        negatives,
-    );
-    end
+    let body = write_body(s, kind == WEIGHT, bound.next, code, j);
+    let end = body.end;
+    let due = need(kind, bound.value, end - j);
+    write_row(code, i, kind, due, heads, j, body.negatives);
+    Span {
+        value: end,
+        first: bound.next,
+        next: body.next,
+    }
 }
 
-// The compute lists as a rule that gives and forces nothing: the body of a choice with no heads.
-pub(crate) fn lists_rule(sheet: Outline) -> SheetRule
-    requires { ⌜ ListsAsk sheet ⌝ }
-    ensures { λ r. ⌜ r ≡ listsRead sheet ⌝ }
+// The rule at a place, as row i and as pairs from j on; and the pair and the place after it.
+fn write_rule(s: &[u8], at: usize, code: &mut [u32], i: usize, j: usize) -> Span
+    requires { ⌜ RuleAsks (now s) at (now code) i j ⌝ }
+    ensures { λ r. ⌜ RulePut (now (s .entry)) at (now (code .entry)) i j (now (code .exit)) r ⌝ }
 {
-    let none = Span {
-        value: 0,
-        first: 0,
-        next: 0,
-    };
-    let ins = sheet.ins;
-    let outs = sheet.outs;
-    SheetRule {
-        kind: SheetKind::Choice(none),
-        need: ins.value + outs.value,
-        positive: Literals {
-            atoms: ins,
-            weights: none,
-        },
-        negated: Literals {
-            atoms: outs,
-            weights: none,
-        },
-        next: outs.next,
-    }
+    let kind = take_number(s, at);
+    let heads = write_heads(s, kind.value, kind.next, code, j);
+    let bound = take_bound(s, kind.value, heads.next);
+    write_rest(s, kind.value, bound, code, i, j, heads.value)
 }
 
 // The row after the last one: where the last rule ends.
@@ -149,7 +171,7 @@ fn first_pair(count: usize) -> usize
 }
 
 // The rules of a sheet, as rows and as pairs; and the pair and the place after them.
-pub(crate) fn write_rules(s: &[u8], sheet: Outline, code: &mut [u32]) -> Read
+pub(crate) fn write_rules(s: &[u8], sheet: Outline, code: &mut [u32]) -> Span
     requires { ⌜ Decodable (now s) sheet (now code) ⌝ }
     ensures { λ r. ⌜ WritesRules (now (s .entry)) sheet (now (code .entry)) (now (code .exit)) r ⌝ }
 {
@@ -158,16 +180,13 @@ pub(crate) fn write_rules(s: &[u8], sheet: Outline, code: &mut [u32]) -> Read
     let mut at = rules.first;
     let mut j = first_pair(count);
     for i in 0..count {
-        let rule = match read_rule(s, sheet.atoms, at) {
-            RuleRead::Got(rule) => rule,
-            RuleRead::Refused(why) => return Read::Refused(why),
-        };
-        j = write_rule(s, rule, code, i, j);
+        let rule = write_rule(s, at, code, i, j);
+        j = rule.value;
         at = rule.next;
     }
-    Read::Got(Span {
+    Span {
         value: j,
         first: rules.first,
         next: at,
-    })
+    }
 }

@@ -11,7 +11,6 @@ use decode::WORDS;
 use decode::decode;
 use gate::Gate;
 use gate::Task;
-use numbers::Read;
 use numbers::Refusal;
 use sheet::Outline;
 use task::Answer;
@@ -34,14 +33,10 @@ fn run_on(
     requires { ⌜ Decodable (now s) sheet (now code) × (Fit (now s) sheet (now map) task × (now work ≡ blank)) ⌝ }
     ensures { λ r. ⌜ Serves (now (s .entry)) (Go sheet task) (now (map .entry)) (now (work .entry)) (now (work .exit)) r ⌝ }
 {
-    match decode(s, sheet, code) {
-        Read::Refused(why) => Served::Refused(why),
-        Read::Got(_) => {
-            let n = sheet.atoms as u32;
-            let count = sheet.rules.value as u32;
-            Served::Done(perform_task(code, n, count, task, map, work))
-        }
-    }
+    decode(s, sheet, code);
+    let n = sheet.atoms as u32;
+    let count = sheet.rules.value as u32;
+    Served::Done(perform_task(code, n, count, task, map, work))
 }
 
 // With a table of its own, a small one for a short sheet.

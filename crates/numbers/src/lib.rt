@@ -1,10 +1,11 @@
 // The numbers and the lists of a sheet: what its bytes say at a place, or why they are refused. Every reader takes any bytes and any
 // place.
 ghost use mathlib.Core.Path.{_≡_};
-ghost use Rattle.numbers.specs.Answer.{refusal};
+ghost use Rattle.numbers.specs.Answer.{refusal, span};
 
 pub mod lists;
 pub mod number;
+pub mod short;
 
 pub use lists::read_atom;
 pub use lists::read_atoms;
@@ -12,6 +13,10 @@ pub use lists::read_list;
 pub use number::read_number;
 pub use number::read_within;
 pub use number::take_number;
+pub use number::wide;
+pub use short::SHORT_MOST;
+pub use short::lesser;
+pub use short::past_bytes;
 
 // Why a sheet is refused: the number of the refusal, and its place.
 pub struct Refusal {
@@ -30,6 +35,12 @@ pub struct Span {
 pub enum Read {
     Got(Span),
     Refused(Refusal),
+}
+
+fn spanned(value: usize, first: usize, next: usize) -> Span
+    ensures { λ r. ⌜ r ≡ span value first next ⌝ }
+{
+    Span { value, first, next }
 }
 
 fn refused(number: usize, place: usize) -> Read

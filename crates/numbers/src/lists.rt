@@ -2,11 +2,17 @@
 ghost use mathlib.Core.Path.{_≡_};
 ghost use Rattle.numbers.specs.Answer.{span};
 ghost use Rattle.numbers.specs.Lists.{atomAt, inTurn, listAt};
+ghost use Rattle.numbers.specs.inner.Short.{Ahead};
 use super::Read;
 use super::Span;
 use super::number::read_number;
 use super::number::read_within;
+use super::number::wide;
 use super::refused;
+use super::short::SHORT_MOST;
+use super::short::lesser;
+use super::short::past_bytes;
+use super::spanned;
 use rules::Atom;
 use rules::AtomOr;
 
@@ -28,13 +34,41 @@ pub fn read_atom(s: &[u8], n: usize, above: usize, at: usize) -> Read
     got
 }
 
+// The first of a run of atoms, two by two, as far as each takes one byte and is above the one before: the last of them, and the place after
+// them. Of two that go up only the second is held against n.
+fn short_atoms(s: &[u8], n: usize, count: usize, first: usize) -> Span
+    ensures { λ r. ⌜ Ahead (atomAt (now (s .entry)) n) count first (r .value) (r .next) ⌝ }
+{
+    let end = past_bytes(s, count, first);
+    let most = lesser(n, SHORT_MOST);
+    let mut above = 0;
+    let mut at = first;
+    while 1 < end - at {
+        let atom = wide(s[at]);
+        let next = wide(s[at + 1]);
+        if atom <= above {
+            return spanned(above, first, at);
+        }
+        if next <= atom {
+            return spanned(above, first, at);
+        }
+        if most < next {
+            return spanned(above, first, at);
+        }
+        above = next;
+        at += 2;
+    }
+    spanned(above, first, at)
+}
+
 // So many atoms from a place on, strictly increasing.
 pub fn read_atoms(s: &[u8], n: usize, count: usize, first: usize) -> Read
     ensures { λ r. ⌜ r ≡ inTurn (atomAt (now (s .entry)) n) count 0 (span count first first) ⌝ }
 {
-    let mut above = 0;
-    let mut at = first;
-    for _ in 0..count {
+    let short = short_atoms(s, n, count, first);
+    let mut above = short.value;
+    let mut at = short.next;
+    for _ in at - first..count {
         let got = read_atom(s, n, above, at);
         let Read::Got(atom) = got else {
             return got;

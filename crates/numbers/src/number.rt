@@ -1,50 +1,55 @@
 // The numbers of a sheet, each at a place of its bytes.
+ghost use Prim.Native.Nat.{_<_};
 ghost use mathlib.Core.Path.{_≡_};
-ghost use mathlib.Core.Bool.{_&&_};
-ghost use lib.Dec.{ltb, eqb};
 ghost use Rattle.numbers.specs.Number.{numberAt, withinAt, takenAt};
 use super::Read;
 use super::Span;
 use super::refused;
+use super::spanned;
 
-fn wide(b: u8) -> usize
-    ensures { λ r. ⌜ r ≡ b ⌝ }
+// A byte as a number.
+pub fn wide(b: u8) -> usize
+    ensures { λ r. ⌜ (r ≡ b) × (r < 256) ⌝ }
 {
     b as usize
-}
-
-// Is this last group, of a number that began at `first`, one that the shortest form leaves out?
-fn needless(group: usize, first: usize, at: usize) -> bool
-    ensures { λ r. ⌜ r ≡ (ltb first at && eqb group 0) ⌝ }
-{
-    if first < at { group == 0 } else { false }
 }
 
 // The number at a place: its groups, low group first.
 pub fn read_number(s: &[u8], first: usize) -> Read
     ensures { λ r. ⌜ r ≡ numberAt (now (s .entry)) first ⌝ }
 {
-    let mut at = first;
-    let mut sum: usize = 0;
-    let mut scale: usize = 1;
-    for _ in 0..4u32 {
+    if s.len() <= first {
+        return refused(1, s.len());
+    }
+    let byte = wide(s[first]);
+    if byte < 128 {
+        return Read::Got(Span {
+            value: byte,
+            first,
+            next: first + 1,
+        });
+    }
+    let mut at = first + 1;
+    let mut sum: usize = byte - 128;
+    let mut scale: usize = 128;
+    for _ in 1..4u32 {
         if s.len() <= at {
             return refused(1, s.len());
         }
         let group = wide(s[at]);
+        at += 1;
+        sum += group % 128 * scale;
         if group < 128 {
-            if needless(group, first, at) {
+            if group == 0 {
                 return refused(2, first);
             }
             return Read::Got(Span {
-                value: sum + group * scale,
+                value: sum,
                 first,
-                next: at + 1,
+                next: at,
             });
         }
-        sum += group % 128 * scale;
         scale *= 128;
-        at += 1;
     }
     refused(15, first)
 }
@@ -53,34 +58,29 @@ pub fn read_number(s: &[u8], first: usize) -> Read
 pub fn take_number(s: &[u8], first: usize) -> Span
     ensures { λ r. ⌜ r ≡ takenAt (now (s .entry)) first ⌝ }
 {
-    let mut at = first;
-    let mut sum: usize = 0;
-    let mut scale: usize = 1;
-    for _ in 0..4u32 {
+    if s.len() <= first {
+        return spanned(0, first, first);
+    }
+    let low = wide(s[first]);
+    if low < 128 {
+        return spanned(low, first, first + 1);
+    }
+    let mut at = first + 1;
+    let mut sum: usize = low - 128;
+    let mut scale: usize = 128;
+    for _ in 1..4u32 {
         if s.len() <= at {
-            return Span {
-                value: sum,
-                first,
-                next: at,
-            };
+            return spanned(sum, first, at);
         }
         let group = wide(s[at]);
         at += 1;
-        if group < 128 {
-            return Span {
-                value: sum + group * scale,
-                first,
-                next: at,
-            };
-        }
         sum += group % 128 * scale;
+        if group < 128 {
+            return spanned(sum, first, at);
+        }
         scale *= 128;
     }
-    Span {
-        value: sum,
-        first,
-        next: at,
-    }
+    spanned(sum, first, at)
 }
 
 // The number at a place, where it is one of `least` to `most`.

@@ -2,4 +2,5 @@ pub mod Body
 pub mod Rule
 pub mod Sheet
 pub mod Meaning
+pub mod inner
 pub mod shown

@@ -1,29 +1,23 @@
 // The bodies of rules: two lists of atoms, and the weights of their literals where the kind has weights.
 ghost use mathlib.Core.Path.{_≡_};
-ghost use Rattle.sheet.specs.Body.{weightsAt, weightsDue, needFor, weighedAt, bodyAt};
+ghost use Rattle.numbers.specs.inner.Short.{Ahead};
+ghost use Rattle.sheet.specs.inner.Unweighed.{isPlain, unweighed};
+ghost use Rattle.sheet.specs.Body.{weightAt, weightsAt, needFor, weighedAt, bodyAt};
 use super::Literals;
 use super::RuleRead;
 use super::SheetKind;
 use super::SheetRule;
 use numbers::Read;
+use numbers::SHORT_MOST;
 use numbers::Span;
+use numbers::lesser;
+use numbers::past_bytes;
 use numbers::read_list;
 use numbers::read_within;
+use numbers::wide;
 
 // The largest weight of a literal.
 const WEIGHT_MOST: usize = 1_000_000;
-
-// How many weights are written for so many literals.
-fn weights_due(kind: SheetKind, count: usize) -> usize
-    ensures { λ r. ⌜ r ≡ weightsDue kind count ⌝ }
-{
-    match kind {
-        SheetKind::Basic(_) => 0,
-        SheetKind::Constraint(_, _) => 0,
-        SheetKind::Choice(_) => 0,
-        SheetKind::Weight(_, _) => count,
-    }
-}
 
 // The need of a rule of this kind, over a body of this length.
 fn need(kind: SheetKind, length: usize) -> usize
@@ -37,12 +31,28 @@ fn need(kind: SheetKind, length: usize) -> usize
     }
 }
 
+// The first of so many weights from a place on, as far as each takes one byte: the place after them.
+fn short_weights(s: &[u8], count: usize, first: usize) -> usize
+    ensures { λ r. ⌜ Ahead (weightAt (now (s .entry))) count first 0 r ⌝ }
+{
+    let end = past_bytes(s, count, first);
+    let most = lesser(WEIGHT_MOST, SHORT_MOST);
+    let mut at = first;
+    while at < end {
+        if most < wide(s[at]) {
+            return at;
+        }
+        at += 1;
+    }
+    at
+}
+
 // So many weights from a place on.
 fn read_weights(s: &[u8], count: usize, first: usize) -> Read
     ensures { λ r. ⌜ r ≡ weightsAt (now (s .entry)) count first ⌝ }
 {
-    let mut at = first;
-    for _ in 0..count {
+    let mut at = short_weights(s, count, first);
+    for _ in at - first..count {
         let got = read_within(s, 0, WEIGHT_MOST, at);
         let Read::Got(weight) = got else {
             return got;
@@ -56,15 +66,51 @@ fn read_weights(s: &[u8], count: usize, first: usize) -> Read
     })
 }
 
+// Is this a kind without weights?
+fn is_plain(kind: SheetKind) -> bool
+    ensures { λ r. ⌜ r ≡ isPlain kind ⌝ }
+{
+    match kind {
+        SheetKind::Basic(_) => true,
+        SheetKind::Constraint(_, _) => true,
+        SheetKind::Choice(_) => true,
+        SheetKind::Weight(_, _) => false,
+    }
+}
+
+// The literals of a list with no weights, at the place where they would begin.
+fn unweighed(atoms: Span, at: usize) -> Literals
+    ensures { λ r. ⌜ r ≡ unweighed atoms at ⌝ }
+{
+    Literals {
+        atoms,
+        weights: Span {
+            value: 0,
+            first: at,
+            next: at,
+        },
+    }
+}
+
 // The rule whose lists were read, with its weights, where its kind has weights.
 fn read_weighed(s: &[u8], kind: SheetKind, need: usize, positive: Span, negated: Span) -> RuleRead
     ensures { λ r. ⌜ r ≡ weighedAt (now (s .entry)) kind need positive negated ⌝ }
 {
-    let above = match read_weights(s, weights_due(kind, positive.value), negated.next) {
+    if is_plain(kind) {
+        let at = negated.next;
+        return RuleRead::Got(SheetRule {
+            kind,
+            need,
+            positive: unweighed(positive, at),
+            negated: unweighed(negated, at),
+            next: at,
+        });
+    }
+    let above = match read_weights(s, positive.value, negated.next) {
         Read::Got(weights) => weights,
         Read::Refused(why) => return RuleRead::Refused(why),
     };
-    let below = match read_weights(s, weights_due(kind, negated.value), above.next) {
+    let below = match read_weights(s, negated.value, above.next) {
         Read::Got(weights) => weights,
         Read::Refused(why) => return RuleRead::Refused(why),
     };

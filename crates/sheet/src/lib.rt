@@ -24,6 +24,12 @@ pub struct Literals {
     pub weights: Span,
 }
 
+// The head part of a rule: its kind with it, and the place of the body.
+pub(crate) enum HeadRead {
+    Got(SheetKind, usize),
+    Refused(Refusal),
+}
+
 // A rule as it stands on a sheet, and the place after it.
 pub struct SheetRule {
     pub kind: SheetKind,

@@ -1,7 +1,9 @@
 // The rules of a sheet, each read from its place.
 ghost use mathlib.Core.Path.{_≡_};
 ghost use Rattle.numbers.specs.Answer.{refusal};
-ghost use Rattle.sheet.specs.Rule.{bounded, basicAt, boundedAt, choiceAt, ruleAt, rulesAt};
+ghost use Rattle.sheet.specs.Rule.{bounded, ruleAt, rulesAt};
+ghost use Rattle.sheet.specs.inner.Head.{choiceHead, boundHead, singleHead, headAt};
+use super::HeadRead;
 use super::RuleRead;
 use super::SheetKind;
 use super::body::read_body;
@@ -17,24 +19,19 @@ use rules::kind::CHOICE;
 use rules::kind::CONSTRAINT;
 use rules::kind::WEIGHT;
 
-fn refused(number: usize, place: usize) -> RuleRead
-    ensures { λ r. ⌜ r ≡ RuleRead.Refused (refusal number place) ⌝ }
+fn refused(number: usize, place: usize) -> HeadRead
+    ensures { λ r. ⌜ r ≡ HeadRead.Refused (refusal number place) ⌝ }
 {
-    RuleRead::Refused(Refusal { number, place })
+    HeadRead::Refused(Refusal { number, place })
 }
 
-fn read_basic(s: &[u8], n: usize, at: usize) -> RuleRead
-    ensures { λ r. ⌜ r ≡ basicAt (now (s .entry)) n at ⌝ }
+fn read_choice(s: &[u8], n: usize, at: usize) -> HeadRead
+    ensures { λ r. ⌜ r ≡ choiceHead (now (s .entry)) n at ⌝ }
 {
-    let number = match read_number(s, at) {
-        Read::Got(number) => number,
-        Read::Refused(why) => return RuleRead::Refused(why),
-    };
-    let checked = Atom::checked(number.value, n);
-    let AtomOr::Is(head) = checked else {
-        return refused(6, at);
-    };
-    read_body(s, n, SheetKind::Basic(head), number.next)
+    match read_list(s, 1, n, at) {
+        Read::Got(heads) => HeadRead::Got(SheetKind::Choice(heads), heads.next),
+        Read::Refused(why) => HeadRead::Refused(why),
+    }
 }
 
 // The kind with this head and bound: a weight rule's where its literals are weighed, and else a constraint's.
@@ -48,55 +45,65 @@ fn bounded(weighs: bool, head: Atom, bound: usize) -> SheetKind
     }
 }
 
-fn read_bounded(s: &[u8], n: usize, weighs: bool, at: usize) -> RuleRead
-    ensures { λ r. ⌜ r ≡ boundedAt (now (s .entry)) n weighs at ⌝ }
+// The bound after a head.
+fn read_bounded(s: &[u8], weighs: bool, head: Atom, at: usize) -> HeadRead
+    ensures { λ r. ⌜ r ≡ boundHead (now (s .entry)) weighs head at ⌝ }
+{
+    match read_number(s, at) {
+        Read::Got(bound) => HeadRead::Got(bounded(weighs, head, bound.value), bound.next),
+        Read::Refused(why) => HeadRead::Refused(why),
+    }
+}
+
+// The head part of a kind with a single head.
+fn read_single(s: &[u8], n: usize, kind: usize, at: usize) -> HeadRead
+    ensures { λ r. ⌜ r ≡ singleHead (now (s .entry)) n kind at ⌝ }
 {
     let number = match read_number(s, at) {
         Read::Got(number) => number,
-        Read::Refused(why) => return RuleRead::Refused(why),
+        Read::Refused(why) => return HeadRead::Refused(why),
     };
     let checked = Atom::checked(number.value, n);
     let AtomOr::Is(head) = checked else {
         return refused(6, at);
     };
-    let bound = match read_number(s, number.next) {
-        Read::Got(bound) => bound,
-        Read::Refused(why) => return RuleRead::Refused(why),
-    };
-    read_body(s, n, bounded(weighs, head, bound.value), bound.next)
+    if kind == BASIC {
+        return HeadRead::Got(SheetKind::Basic(head), number.next);
+    }
+    read_bounded(s, kind == WEIGHT, head, number.next)
 }
 
-fn read_choice(s: &[u8], n: usize, at: usize) -> RuleRead
-    ensures { λ r. ⌜ r ≡ choiceAt (now (s .entry)) n at ⌝ }
+// The number of a rule's kind, and then its head part.
+fn read_head(s: &[u8], n: usize, at: usize) -> HeadRead
+    ensures { λ r. ⌜ r ≡ headAt (now (s .entry)) n at ⌝ }
 {
-    let heads = match read_list(s, 1, n, at) {
-        Read::Got(heads) => heads,
-        Read::Refused(why) => return RuleRead::Refused(why),
+    let kind = match read_number(s, at) {
+        Read::Got(kind) => kind,
+        Read::Refused(why) => return HeadRead::Refused(why),
     };
-    read_body(s, n, SheetKind::Choice(heads), heads.next)
+    if kind.value == BASIC {
+        return read_single(s, n, kind.value, kind.next);
+    }
+    if kind.value == CONSTRAINT {
+        return read_single(s, n, kind.value, kind.next);
+    }
+    if kind.value == CHOICE {
+        return read_choice(s, n, kind.next);
+    }
+    if kind.value == WEIGHT {
+        return read_single(s, n, kind.value, kind.next);
+    }
+    refused(5, at)
 }
 
 // The rule at a place, on a sheet of n atoms.
 pub fn read_rule(s: &[u8], n: usize, at: usize) -> RuleRead
     ensures { λ r. ⌜ r ≡ ruleAt (now (s .entry)) n at ⌝ }
 {
-    let kind = match read_number(s, at) {
-        Read::Got(kind) => kind,
-        Read::Refused(why) => return RuleRead::Refused(why),
-    };
-    if kind.value == BASIC {
-        return read_basic(s, n, kind.next);
+    match read_head(s, n, at) {
+        HeadRead::Got(kind, next) => read_body(s, n, kind, next),
+        HeadRead::Refused(why) => RuleRead::Refused(why),
     }
-    if kind.value == CONSTRAINT {
-        return read_bounded(s, n, false, kind.next);
-    }
-    if kind.value == CHOICE {
-        return read_choice(s, n, kind.next);
-    }
-    if kind.value == WEIGHT {
-        return read_bounded(s, n, true, kind.next);
-    }
-    refused(5, at)
 }
 
 // So many rules from a place on.

@@ -9,13 +9,22 @@ use native.Mathlib.Nat.{eq-or-lt-of-le, le-trans, mul-le-mul-right}
 use native.Mathlib.Omega.{arith}
 use native.Mathlib.Numerals.{add-one}
 use lib.Dec.{T, eqb, eqb→eq, eqb-refl}
+use lib.ListN.{length, List·getD-eq-default}
 use Rattle.rules.specs.Limits.{atomsMost, weightMost}
 use Rattle.rules.specs.Sum.{tally, counted, has}
 use Rattle.rules.specs.Rule.{Weighted, atomsOf}
 use Rattle.rules.specs.Stable.{Set, gain}
-use Rattle.rules.proofs.Tests.{T-or, or-left, or-right}
+use Rattle.rules.proofs.Tests.{below?, T-or, or-left, or-right}
 use Rattle.rules.proofs.Sum.{counted-most}
-use Rattle.table.specs.inner.Words.{pairAtom, pairWeight, pairAt, pairsFrom, seg, segAtoms, Seg}
+use Rattle.table.specs.inner.Words.{pairWidth, wordAt, pairAtom, pairWeight, pairAt, pairsFrom, seg, segAtoms, Seg}
+
+-- an atom is not 0, which a word past the end would be
+pub atom-within : (c : List ℕ) (j : ℕ) → 1 ≤ pairAtom c j → pairWidth * j < length c
+unfolding pairAtom wordAt
+atom-within c j h =
+    ⊎-elim (λ (l : pairWidth * j < length c). l)
+    (λ (l : length c ≤ pairWidth * j). let z = List·getD-eq-default c 0 l in absurd (omega (arith, z, h)))
+    (below? (pairWidth * j) (length c))
 
 pub seg-done : (c : List ℕ) (j to : ℕ) → to ≤ j → seg c j to ≡ []
 unfolding seg pairsFrom

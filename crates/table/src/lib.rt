@@ -1,6 +1,7 @@
-// A table: the rules of a sheet as one list of words. Nothing here asks anything of the words: a word past the end is 0.
+// A table: the rules of a sheet as one list of words. A word past the end is 0; only `atom_there` asks anything of the words.
 pub mod parts;
 
+ghost use Prim.Native.Nat.{_≤_};
 ghost use mathlib.Core.Path.{_≡_};
 ghost use Rattle.rules.specs.Rule.{chooses};
 ghost use Rattle.table.specs.inner.Words.{wordAt, pairAtom, pairWeight};
@@ -24,6 +25,14 @@ pub fn atom_at(code: &[u32], j: u32) -> u32
     ensures { λ r. ⌜ r ≡ pairAtom (now (code .entry)) j ⌝ }
 {
     word(code, PAIR * (j as usize))
+}
+
+// The same of a pair that has an atom: an atom is never 0, so its word is there, and no test is needed.
+pub fn atom_there(code: &[u32], j: u32) -> u32
+    requires { ⌜ 1 ≤ pairAtom (now code) j ⌝ }
+    ensures { λ r. ⌜ r ≡ pairAtom (now (code .entry)) j ⌝ }
+{
+    code[PAIR * (j as usize)]
 }
 
 pub fn weight_at(code: &[u32], j: u32) -> u32

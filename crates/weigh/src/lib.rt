@@ -46,7 +46,7 @@ fn weigh_pair(code: &[u32], n: u32, j: u32, m: &[u8], given: u8, equal: bool) ->
     requires { ⌜ Pair (now code) n j × Room n (now m) ⌝ }
     ensures { λ r. ⌜ r ≡ counted (sees equal given (side n (now (m .entry))) (pairAtom (now (code .entry)) j)) (pairWeight (now (code .entry)) j) ⌝ }
 {
-    let x = side_of(m, n, table::atom_at(code, j));
+    let x = side_of(m, n, table::atom_there(code, j));
     if meets_side(x, given, equal) {
         table::weight_at(code, j)
     } else {

@@ -1,11 +1,10 @@
 -- A list is copied pair by pair: what is left of it, written from here on, is the whole list written from where it began.
-use Prim.Native.Nat.{ℕ, suc, _+_, _*_, _-_, _≤_}
+use Prim.Native.Nat.{ℕ, suc, _+_, _*_, _≤_}
 use mathlib.Core.Path.{_≡_, refl, sym, _∙_, ap, ap₂, subst}
 use mathlib.Core.List.{List, [], _∷_}
 use native.Mathlib.Omega.{arith}
 use lib.ListN.{length}
-use Rattle.rules.specs.Rule.{Weighted, weighted}
-use Rattle.sheet.specs.Meaning.{paired}
+use Rattle.rules.specs.Rule.{Weighted}
 use Rattle.table.specs.inner.Words.{pairWidth}
 use Rattle.decode.specs.inner.Pairs.{withPairs, PairsFit, PairsCopied}
 use Rattle.decode.proofs.pairs.Laws.{pair-long, pairs-long}
@@ -41,15 +40,6 @@ module _ {c₀ : List ℕ} {j₀ : ℕ} {ls₀ : List Weighted} {c : List ℕ} {
           end = omega (arith, left .end, w .end);
           long = ap length (w .code) ∙ pair-long c j (l .atom) (l .weight) ∙ left .long;
         }
-
--- the first of two lists put together
-pub paired-more : {xs ws : List ℕ} {x w : ℕ} {ys vs : List ℕ} → xs ≡ x ∷ ys → ws ≡ w ∷ vs → paired xs ws ≡ weighted x w ∷ paired ys vs
-unfolding paired
-paired-more e f = ap₂ paired e f
-
-pub paired-none : {xs : List ℕ} (ws : List ℕ) → xs ≡ [] → paired xs ws ≡ []
-unfolding paired
-paired-none ws e = ap (λ (ys : List ℕ). paired ys ws) e
 
 -- the same of a list that is equal
 pub asks-as : {c : List ℕ} {j : ℕ} {ls ms : List Weighted} → ls ≡ ms → PairsFit c j ls → PairsFit c j ms

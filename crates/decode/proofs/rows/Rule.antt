@@ -1,145 +1,180 @@
--- A rule that was read is written list by list, and then its row: its lists are those of the rule that is meant, so the words are those
--- of that rule, and each list finds the room that the whole rule has.
-use Prim.Native.Nat.{ℕ, _*_, _≤_}
-use mathlib.Core.Path.{_≡_, refl, sym, _∙_, ap}
+-- A rule is written head part first, then its body, and then its row: what is taken on the way is what the rule has, so the words are
+-- those of the rule, and each part finds the room that the whole rule has.
+use Prim.Native.Nat.{ℕ, _+_, _-_, _≤_}
+use mathlib.Core.Path.{_≡_, sym, _∙_, ap, ap₂, subst}
+use mathlib.Core.Bool.{Bool, true, false}
 use mathlib.Core.List.{List, [], _∷_}
 use native.Mathlib.Omega.{arith}
+use lib.Dec.{eqb}
 use lib.ListN.{length, length-map}
 use borrow.Author.Tests.{eq-eqb, ne-eqb}
 use Rattle.rules.specs.Sum.{pick}
 use Rattle.rules.specs.Limits.{numberMost}
-use Rattle.rules.specs.Rule.{one, ones, weighted, Kind, kindNumber, basic, constraint, choice, weight}
-use Rattle.numbers.specs.Lists.{numbersFrom, numbersOf}
-use Rattle.sheet.specs.Meaning.{paired, ruleBy, ruleMeant}
+use Rattle.rules.specs.Rule.{Rule, one, ones, weighted, kindNumber, choice, weight}
+use Rattle.numbers.specs.Answer.{span}
+use Rattle.numbers.specs.Number.{takenAt}
+use Rattle.numbers.specs.declared.Span.{Span}
+use Rattle.numbers.proofs.number.Taken.{taken-most}
 use Rattle.sheet.specs.shown.Encode.{rulesSize}
-use Rattle.sheet.specs.declared.SheetKind.{SheetKind}
-use Rattle.sheet.specs.declared.SheetKind.the-variants.{Basic, Constraint, Choice, Weight}
-use Rattle.sheet.specs.declared.Literals.{Literals}
-use Rattle.sheet.specs.declared.SheetRule.{SheetRule}
 use Rattle.table.specs.inner.Words.{rowWidth, pairWidth}
-use Rattle.decode.specs.inner.Pairs.{PairFits, PairsFit, PairsCopied}
-use Rattle.decode.specs.inner.Rows.{kindRead, headsRead, positivesFrom, negativesFrom, endFrom, withBody, withRow, withRule, literalsRead, headNumber, HeadsAsk, Weights, RowAsks, RuleAsks, RulePut}
+use Rattle.table.specs.inner.Rows.{kindOf}
+use Rattle.decode.specs.inner.Taken.{listTaken, listPast, Body, bodyLength, restTaken, hasBound, headsTaken, headsPast, boundTaken, needTaken, ruleOf, ruleBound, ruleTaken, rulePast}
+use Rattle.decode.specs.inner.Pairs.{withPairs, PairsFit, PairsCopied}
+use Rattle.decode.specs.inner.Rows.{positivesFrom, negativesFrom, endFrom, withBody, withRow, withRule, BodyPut, RowAsks, RestAsks, RestPut, RuleAsks, RulePut}
+use Rattle.decode.specs.declared.rows.BodyEnds.{BodyEnds}
+use Rattle.decode.proofs.pairs.Laws.{pairs-long}
 use Rattle.decode.proofs.pairs.Copy.{asks-as, copied-as, copied-long}
 
--- a rule with one head asks for one pair
-module _ (s : List ℕ) (kind other : SheetKind) (c : List ℕ) (j a : ℕ) (x : ℕ) (same : x ≡ a) (e : kind ≡ other) (f : headsRead s other ≡ a ∷ []) where
-  pub head-asks : HeadsAsk s kind c j → headNumber other ≡ a → PairFits c j x 1
-  unfolding numberMost
-  head-asks h g =
-      record {
-        room = asks-as (ap (λ (k : SheetKind). ones (headsRead s k)) e ∙ ap ones f) (h .list) .room;
-        atomFits = let z : headNumber kind ≡ a = ap headNumber e ∙ g in omega (arith, h .most, same);
-        weightFits = omega arith;
-      }
+need-most : (kind bound length : ℕ) → bound ≤ numberMost → length ≤ numberMost → needTaken kind bound length ≤ numberMost
+unfolding needTaken pick
+need-most kind bound length h l = by (hasBound kind)
+  where
+    by : (b : Bool) → pick b bound length ≤ numberMost
+    by true = h
+    by false = l
 
-  pub head-copied : {d : List ℕ} {k : ℕ} → PairsCopied c j (weighted x 1 ∷ []) d k → PairsCopied c j (ones (headsRead s kind)) d k
-  head-copied w =
-      copied-as
-      (ap (λ (k : SheetKind). ones (headsRead s k)) e ∙ ap ones f ∙ ap (λ (y : ℕ). weighted y 1 ∷ []) (sym same))
-      w
+bound-most : (s : List ℕ) (kind at : ℕ) → boundTaken s kind at .value ≤ numberMost
+unfolding boundTaken pick numberMost
+bound-most s kind at = by (hasBound kind)
+  where
+    by : (b : Bool) → pick b (takenAt s at) (record { value = 0; first = at; next = at }) .value ≤ numberMost
+    by true = taken-most s at
+    by false = omega arith
 
--- the literals of one sign, with weights or without
-module _ (s : List ℕ) (l : Literals) where
-  pub literals-plain : l .weights .value ≡ 0 → literalsRead s l ≡ ones (numbersOf s (l .atoms))
-  unfolding literalsRead pick
-  literals-plain e = simp (eq-eqb (l .weights .value) 0 e)
+-- the heads: of a choice a list, and of every other kind one atom
+module _ (s : List ℕ) (kind at : ℕ) where
+  module _ (e : kind ≡ kindNumber choice) where
+    pub list-heads : ones (headsTaken s kind at) ≡ ones (listTaken s at)
+    unfolding headsTaken pick
+    list-heads = simp (eq-eqb kind (kindNumber choice) e)
 
-  pub literals-weighed :
-      (l .weights .value ≡ 0 → ⊥) → Weights l
-      → literalsRead s l ≡ paired (numbersOf s (l .atoms)) (numbersFrom (l .atoms .value) s (l .weights .first))
-  unfolding literalsRead pick
-  literals-weighed f w =
-      simp (ne-eqb (l .weights .value) 0 f)
-      (ap (λ (m : ℕ). paired (numbersOf s (l .atoms)) (numbersFrom m s (l .weights .first))) (w .count f))
+    pub list-past : headsPast s kind at ≡ listPast s at
+    unfolding headsPast pick
+    list-past = simp (eq-eqb kind (kindNumber choice) e)
 
--- the heads of a rule that was read are those of the rule that is meant, and so is its kind
-pub record HeadPart (s : List ℕ) (kind : SheetKind) (p q : Literals) : Type 0 where
-  pub heads : headsRead s kind ≡ ruleBy s kind p q .heads
-  pub kindIs : kindRead kind ≡ ruleBy s kind p q .kind
+  module _ (f : kind ≡ kindNumber choice → ⊥) {p : Span} (e : p ≡ takenAt s at) where
+    pub one-head : ones (headsTaken s kind at) ≡ weighted (p .value) 1 ∷ []
+    unfolding headsTaken pick
+    one-head = simp (ne-eqb kind (kindNumber choice) f) (ap (λ (q : Span). weighted (q .value) 1 ∷ []) (sym e))
 
-pub parts : (s : List ℕ) (kind : SheetKind) (p q : Literals) → HeadPart s kind p q
-parts s (Basic head) p q = record { heads = refl; kindIs = refl }
-parts s (Constraint head bound) p q = record { heads = refl; kindIs = refl }
-parts s (Choice heads) p q = record { heads = refl; kindIs = refl }
-parts s (Weight head bound) p q = record { heads = refl; kindIs = refl }
+    pub one-past : p .next ≡ headsPast s kind at
+    unfolding headsPast pick
+    one-past = simp (ne-eqb kind (kindNumber choice) f) (ap (λ (q : Span). q .next) e)
 
-kind-most : (k : Kind) → kindNumber k ≤ numberMost
-unfolding numberMost
-kind-most basic = omega arith
-kind-most constraint = omega arith
-kind-most choice = omega arith
-kind-most weight = omega arith
+-- the body and the row
+module _ (s : List ℕ) (kind : ℕ) (bound : Span) (c : List ℕ) (i heads j : ℕ) (asks : RestAsks s kind bound c i heads j) where
+  abbrev body : Body
+  body = restTaken s kind bound
 
-module _ (s : List ℕ) (r : SheetRule) (c : List ℕ) (i j : ℕ) (asks : RuleAsks s r c i j) where
-  heads-are : ones (headsRead s (r .kind)) ≡ ones (ruleMeant s r .heads)
-  unfolding ruleMeant
-  heads-are = ap ones (parts s (r .kind) (r .positive) (r .negated) .heads)
+  module _
+      {c₁ : List ℕ}
+      (ends : BodyEnds)
+      (put : BodyPut s (eqb kind (kindNumber weight)) (bound .next) c j c₁ ends)
+      {need : ℕ}
+      (due : need ≡ needTaken kind (bound .value) (ends .end - j))
+    where
+      need-is : need ≡ needTaken kind (bound .value) (bodyLength body)
+      need-is = due ∙ ap (needTaken kind (bound .value)) (omega (arith, put .end))
 
-  pos-are : literalsRead s (r .positive) ≡ ruleMeant s r .pos
-  pos-are = asks .meant .pos
+      long : length c₁ ≡ length c
+      long = ap length (put .code) ∙ pairs-long _ _ (body .neg) ∙ pairs-long c j (body .pos)
 
-  neg-are : literalsRead s (r .negated) ≡ ruleMeant s r .neg
-  neg-are = asks .meant .neg
+      pub row-asks : RowAsks c₁ i kind need heads j (ends .negatives)
+      row-asks =
+          record {
+            room = omega (arith, asks .row, long);
+            kindMost = asks .kindMost;
+            needMost =
+                subst (λ (k : ℕ). k ≤ numberMost) (sym need-is)
+                (need-most kind (bound .value) (bodyLength body) (asks .boundMost) (omega (arith, asks .few)));
+            order = (asks .order, omega (arith, put .negatives), omega (arith, put .negatives, asks .few));
+          }
 
-  kind-is : kindNumber (kindRead (r .kind)) ≡ kindNumber (ruleMeant s r .kind)
-  unfolding ruleMeant
-  kind-is = ap kindNumber (parts s (r .kind) (r .positive) (r .negated) .kindIs)
+      pub rest-put :
+          {d : List ℕ} → d ≡ withRow c₁ i kind need heads j (ends .negatives)
+          → RestPut s kind bound c i heads j d (span (ends .end) (bound .next) (ends .next))
+      rest-put e =
+          record {
+            code =
+                e
+                ∙ ap₂ (λ (x : List ℕ) (k : ℕ). withRow x i kind k heads j (ends .negatives)) (put .code) need-is
+                ∙ ap (withRow _ i kind _ heads j) (put .negatives);
+            pair = put .end;
+            place = put .next;
+          }
 
-  fits : pairWidth * endFrom j (ruleMeant s r) ≤ length c
-  unfolding endFrom negativesFrom positivesFrom rulesSize pairWidth
-  fits = omega (arith, asks .room .pairs)
+-- the whole rule
+module _ (s : List ℕ) (at : ℕ) (c : List ℕ) (i j : ℕ) (asks : RuleAsks s at c i j) where
+  abbrev rule : Rule
+  rule = ruleTaken s at
 
-  pub heads-ask : HeadsAsk s (r .kind) c j
-  unfolding endFrom negativesFrom positivesFrom pairWidth
-  heads-ask =
-      record {
-        list = asks-as (sym heads-are) (record { room = omega (arith, fits, length-map (ruleMeant s r .heads) one) });
-        most = asks .meant .head;
-      }
+  module _ (k : Span) (taken : k ≡ takenAt s at) where
+    heads-are : ones (headsTaken s (k .value) (k .next)) ≡ ones (rule .heads)
+    unfolding ruleTaken
+    heads-are = ap (λ (q : Span). ones (headsTaken s (q .value) (q .next))) taken
 
-  module _ {c₁ : List ℕ} {p : ℕ} (heads : PairsCopied c j (ones (headsRead s (r .kind))) c₁ p) where
-    heads-end : p ≡ positivesFrom j (ruleMeant s r)
-    unfolding positivesFrom
-    heads-end = omega (arith, copied-as (sym heads-are) heads .end, length-map (ruleMeant s r .heads) one)
+    pub heads-fit : PairsFit c j (ones (headsTaken s (k .value) (k .next)))
+    unfolding rulesSize pairWidth
+    heads-fit =
+        asks-as (sym heads-are) (record { room = omega (arith, asks .room .pairs, length-map (rule .heads) one) })
 
-    pub pos-ask : PairsFit c₁ p (literalsRead s (r .positive))
-    unfolding endFrom negativesFrom pairWidth
-    pos-ask = asks-as (sym pos-are) (record { room = omega (arith, fits, heads-end, copied-long heads) })
+    module _
+        {c₁ : List ℕ}
+        (h : Span)
+        (heads :
+        PairsCopied c j (ones (headsTaken s (k .value) (k .next))) c₁ (h .value)
+        × (h .next ≡ headsPast s (k .value) (k .next)))
+        (b : Span)
+        (bound : b ≡ boundTaken s (k .value) (h .next))
+      where
+        written : PairsCopied c j (ones (rule .heads)) c₁ (h .value)
+        written = copied-as (sym heads-are) (heads .0)
 
-    module _ {c₂ : List ℕ} {q : ℕ} (pos : PairsCopied c₁ p (literalsRead s (r .positive)) c₂ q) where
-      pos-end : q ≡ negativesFrom j (ruleMeant s r)
-      unfolding negativesFrom
-      pos-end = omega (arith, copied-as (sym pos-are) pos .end, heads-end)
+        first : h .value ≡ positivesFrom j rule
+        unfolding positivesFrom
+        first = omega (arith, written .end, length-map (rule .heads) one)
 
-      pub neg-ask : PairsFit c₂ q (literalsRead s (r .negated))
-      unfolding endFrom pairWidth
-      neg-ask =
-          asks-as (sym neg-are) (record { room = omega (arith, fits, pos-end, copied-long heads, copied-long pos) })
+        bound-is : b ≡ ruleBound s at
+        unfolding ruleBound
+        bound-is =
+            bound ∙ ap (boundTaken s (k .value)) (heads .1)
+            ∙ ap (λ (q : Span). boundTaken s (q .value) (headsPast s (q .value) (q .next))) taken
 
-      module _
-          {c₃ : List ℕ}
-          {e k : ℕ}
-          (neg : PairsCopied c₂ q (literalsRead s (r .negated)) c₃ e)
-          (kind : k ≡ kindNumber (kindRead (r .kind)))
-        where
-          pub row-ask : RowAsks c₃ i k (r .need) j p q
-          unfolding negativesFrom positivesFrom rowWidth pairWidth rulesSize
-          row-ask =
-              record {
-                room = omega (arith, asks .room .rows, asks .room .pairs, copied-long heads, copied-long pos, copied-long neg);
-                kindMost = omega (arith, kind, kind-most (kindRead (r .kind)));
-                needMost = asks .meant .needMost;
-                order = omega (arith, heads-end, pos-end, asks .room .few);
-              }
+        body-is : restTaken s (k .value) b ≡ restTaken s (takenAt s at .value) (ruleBound s at)
+        body-is = ap₂ (λ (q : Span) (d : Span). restTaken s (q .value) d) taken bound-is
 
-          pub rule-made : {c₄ : List ℕ} → c₄ ≡ withRow c₃ i k (r .need) j p q → RulePut s r c i j c₄ e
-          unfolding withRule withBody endFrom
-          rule-made row =
-              let a = copied-as (sym heads-are) heads .code in
-              let b = copied-as (sym pos-are) pos .code in
-              let d = copied-as (sym neg-are) neg .code in
-              let x = heads-end in
-              let y = pos-end in
-              let n = asks .meant .need in
-              let z = kind ∙ kind-is in
-              record { code = cc; end = omega (arith, copied-as (sym neg-are) neg .end, y) }
+        pub rest-asks : RestAsks s (k .value) b c₁ i j (h .value)
+        unfolding ruleTaken rulesSize rowWidth pairWidth positivesFrom
+        rest-asks =
+            let l = ap bodyLength body-is in
+            record {
+              row = omega (arith, asks .room .rows, asks .room .pairs, copied-long written);
+              order = omega (arith, first);
+              pairs = omega (arith, asks .room .pairs, first, l, copied-long written);
+              few = omega (arith, asks .room .few, first, l);
+              kindMost = subst (λ (q : Span). q .value ≤ numberMost) (sym taken) (taken-most s at);
+              boundMost = subst (λ (q : Span). q .value ≤ numberMost) (sym bound) (bound-most s (k .value) (h .next));
+            }
+
+        pub rule-put : {d : List ℕ} (end : Span) → RestPut s (k .value) b c₁ i j (h .value) d end → RulePut s at c i j d end
+        unfolding ruleTaken rulePast withRule withBody positivesFrom negativesFrom endFrom
+        rule-put end rest =
+            let x = written .code in
+            let y = body-is in
+            let z = bound-is in
+            let f = first in
+            let v = asks .kind ∙ sym (ap (λ (q : Span). q .value) taken) in
+            record {
+              code = cc (rest .code);
+              pair = omega (arith, rest .pair, first, ap bodyLength body-is);
+              place = rest .place ∙ ap (λ (d : Body). d .next) body-is;
+            }
+
+-- a rule with no heads, of which only the rest is written
+pub headless :
+    (s : List ℕ) (bound : Span) (c : List ℕ) (i j : ℕ) {d : List ℕ} (end : Span) → RestPut s (kindNumber choice) bound c i j j d end
+    → (d ≡ withRule c i j (ruleOf s (kindNumber choice) [] bound)) × (end .value ≡ endFrom j (ruleOf s (kindNumber choice) [] bound))
+unfolding withRule withBody withPairs positivesFrom negativesFrom endFrom kindOf
+headless s bound c i j end rest =
+    let z : j ≡ j + 0 = omega arith in
+    (cc (rest .code), omega (arith, rest .pair))

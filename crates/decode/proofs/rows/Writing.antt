@@ -1,32 +1,34 @@
--- The rules of a sheet are read again and written one by one: each is read as it was when the sheet was accepted, so none is refused, and
--- what is left of them, with the compute lists, makes up the whole table.
+-- The rules of a sheet are taken and written one by one: each is the rule that was read there when the sheet was accepted, and what is
+-- left of them, with the compute lists, makes up the whole table.
 use Prim.Native.Nat.{ℕ, _+_, _-_, _≤_, _<_}
-use mathlib.Core.Path.{_≡_, refl, sym, _∙_, ap}
+use mathlib.Core.Path.{_≡_, sym, _∙_, ap, subst}
 use mathlib.Core.List.{List, [], _∷_, _++_}
 use native.Mathlib.Omega.{arith}
 use native.Mathlib.Nat.{sub-zero}
 use Rattle.rules.specs.Rule.{Rule}
 use Rattle.numbers.specs.Answer.{span}
-use Rattle.numbers.specs.Lists.{inTurn}
-use Rattle.numbers.specs.declared.Refusal.{Refusal}
+use Rattle.numbers.specs.Lists.{inTurn, upTo}
+use Rattle.numbers.specs.declared.Span.{Span}
 use Rattle.numbers.specs.declared.Read.the-variants.{Got}
-use Rattle.numbers.proofs.Answer.{not-got}
-use Rattle.numbers.proofs.lists.Laws.{turn, turn-out}
+use Rattle.numbers.proofs.Answer.{one-left, same-span}
+use Rattle.numbers.proofs.lists.Laws.{turned}
 use Rattle.sheet.specs.Rule.{ruleAt, ruleStep, rulesAt}
-use Rattle.sheet.specs.Meaning.{ruleMeant, rulesFrom, sheetMeant}
+use Rattle.sheet.specs.Sheet.{sheetRead}
+use Rattle.sheet.specs.Meaning.{rulesFrom, sheetMeant}
 use Rattle.sheet.specs.declared.Outline.{Outline}
+use Rattle.sheet.specs.declared.SheetRead.the-variants.{Accepted}
 use Rattle.sheet.specs.declared.SheetRule.{SheetRule}
-use Rattle.sheet.specs.declared.RuleRead.{RuleRead}
-use Rattle.sheet.specs.declared.RuleRead.the-variants.{Got as GotRule, Refused as RefusedRule}
-use Rattle.sheet.proofs.rule.Laws.{step-got, step-out}
-use Rattle.sheet.proofs.sheet.Ran.{sheet-ran}
+use Rattle.sheet.specs.declared.RuleRead.the-variants.{Got as GotRule}
+use Rattle.sheet.proofs.sheet.Rules.{rules-more, rules-next}
+use Rattle.sheet.proofs.sheet.Ran.{same-outline, sheet-ran}
+use Rattle.decode.specs.inner.Taken.{ruleTaken}
 use Rattle.decode.specs.inner.Rows.{firstPair, listsRule, RowsLeft, RuleAsks, RulePut}
 use Rattle.decode.specs.inner.Decode.{allRows, Decodable, WritesRules}
-use Rattle.decode.proofs.rows.Left.{rows-begin, left-turn, rule-asks, rules-turn, rules-over, rows-as}
-use Rattle.decode.proofs.rows.Meant.{rule-meant}
+use Rattle.decode.proofs.Taken.{RuleIs, rule-taken}
+use Rattle.decode.proofs.rows.Left.{rows-begin, room-one, left-turn, rules-over, rows-as}
 use Rattle.decode.proofs.Decoded.{table-room}
 
--- the rules before row i are written, and the next is read at a place
+-- the rules before row i are written, and the next was read at a place
 pub record Writing (s : List ℕ) (o : Outline) (c₀ c : List ℕ) (i j at : ℕ) : Type 0 where
   pub low : i ≤ o .rules .value
   pub left :
@@ -35,7 +37,20 @@ pub record Writing (s : List ℕ) (o : Outline) (c₀ c : List ℕ) (i j at : �
   pub reads :
       inTurn (ruleStep s (o .atoms)) (o .rules .value - i) 0 (span (o .rules .value) (o .rules .first) at) ≡ Got (o .rules)
 
+-- the same of the one sheet that these bytes are accepted as: a loop that does not look at the sheet says so much
+pub record WritingOne (s c₀ c : List ℕ) (i j at : ℕ) : Type 0 where
+  pub sheet : Outline
+  pub accepted : sheetRead s ≡ Accepted sheet
+  pub writing : Writing s sheet c₀ c i j at
+
 module _ {s : List ℕ} {o : Outline} {c₀ : List ℕ} (ready : Decodable s o c₀) where
+  pub writing-one : {c : List ℕ} {i j at : ℕ} → Writing s o c₀ c i j at → WritingOne s c₀ c i j at
+  writing-one w = record { sheet = o; accepted = ready .accepted; writing = w }
+
+  pub this-one : {c : List ℕ} {i j at : ℕ} → WritingOne s c₀ c i j at → Writing s o c₀ c i j at
+  this-one {c} {i} {j} {at} w =
+      subst (λ (t : Outline). Writing s t c₀ c i j at) (same-outline (sym (w .accepted) ∙ ready .accepted)) (w .writing)
+
   abbrev lists : List Rule
   lists = listsRule (sheetMeant s o) ∷ []
 
@@ -53,36 +68,53 @@ module _ {s : List ℕ} {o : Outline} {c₀ : List ℕ} (ready : Decodable s o c
       }
 
   module _ {c : List ℕ} {i j at : ℕ} (w : Writing s o c₀ c i j at) where
-    module _ (h : i < o .rules .value) {x : RuleRead} (e : x ≡ ruleAt s (o .atoms) at) where
-      pub not-refused : (why : Refusal) → x ≡ RefusedRule why → ⊥
-      not-refused why g =
-          let out = step-out s (o .atoms) 0 at x why e g in
-          not-got why (sym out ∙ turn-out _ _ i 0 _ (w .reads) h refl why out)
+    module _ (h : i < o .rules .value) where
+      abbrev after : ℕ
+      after = o .rules .value - (i + 1)
 
-      module _ (r : SheetRule) (g : x ≡ GotRule r) where
-        next : rulesFrom (o .rules .value - i) s (o .atoms) at ++ lists
-            ≡ ruleMeant s r ∷ (rulesFrom (o .rules .value - (i + 1)) s (o .atoms) (r .next) ++ lists)
-        next = ap (λ (rs : List Rule). rs ++ lists) (rules-turn s (o .atoms) (o .rules .value) i at h e r g)
+      abbrev done : Span
+      done = span (o .rules .value) (o .rules .first) at
 
-        pub next-asks : RuleAsks s r c i j
-        unfolding sheetMeant
-        next-asks =
-            rule-asks (w .left) s r next
-            (rule-meant (o .atoms) (sheet-ran s o (ready .accepted) .wellFormed .atoms) s at r (sym e ∙ g))
+      next :
+          (r : SheetRule) × (ruleAt s (o .atoms) at ≡ GotRule r)
+          × (inTurn (ruleStep s (o .atoms)) after 0 (upTo done (r .next)) ≡ Got (o .rules))
+      next =
+          rules-next s (o .atoms) after 0 done (o .rules)
+          (ap (λ (k : ℕ). inTurn (ruleStep s (o .atoms)) k 0 done) (sym (one-left (o .rules .value) i h)) ∙ w .reads)
 
-        pub writing-next : {d : List ℕ} {k : ℕ} → RulePut s r c i j d k → Writing s o c₀ d (i + 1) k (r .next)
-        writing-next written =
-            record {
-              low = omega arith;
-              left = left-turn (w .left) s r next written;
-              reads = turn _ _ i 0 _ (w .reads) h refl _ (step-got s (o .atoms) 0 at x r e g);
-            }
+      taken : RuleIs s at (next .0)
+      taken = rule-taken s (o .atoms) at (next .0) (next .1)
 
-    pub writing-done : {first next : ℕ} → o .rules .value ≤ i → WritesRules s o c₀ c (Got (span j first next))
+      rules : rulesFrom (o .rules .value - i) s (o .atoms) at ++ lists
+          ≡ ruleTaken s at ∷ (rulesFrom after s (o .atoms) (next .0 .next) ++ lists)
+      rules =
+          ap (λ (rs : List Rule). rs ++ lists)
+          (ap (λ (k : ℕ). rulesFrom k s (o .atoms) at) (one-left (o .rules .value) i h)
+          ∙ rules-more s (o .atoms) after at (next .0) (next .1)
+          ∙ ap (λ (r : Rule). r ∷ rulesFrom after s (o .atoms) (next .0 .next)) (sym (taken .rule)))
+
+      pub next-asks : RuleAsks s at c i j
+      next-asks = record { kind = taken .kind; room = room-one (w .left) (ruleTaken s at) rules }
+
+      pub writing-next : {d : List ℕ} (end : Span) → RulePut s at c i j d end → Writing s o c₀ d (i + 1) (end .value) (end .next)
+      writing-next end put =
+          let z : end .next ≡ next .0 .next = put .place ∙ taken .next in
+          record {
+            low = omega arith;
+            left =
+                left-turn (w .left) (ruleTaken s at)
+                (rules ∙ ap (λ (p : ℕ). ruleTaken s at ∷ (rulesFrom after s (o .atoms) p ++ lists)) (sym z))
+                (put .code)
+                (put .pair);
+            reads = ap (λ (p : ℕ). inTurn (ruleStep s (o .atoms)) after 0 (upTo done p)) z ∙ next .2;
+          }
+
+    pub writing-done : {first : ℕ} → o .rules .value ≤ i → WritesRules s o c₀ c (span j first at)
     writing-done h =
         record {
-          wrote =
+          left =
               rows-as (omega (arith, w .low, h))
               (ap (λ (rs : List Rule). rs ++ lists) (rules-over s (o .atoms) (o .rules .value) i at h))
               (w .left);
+          place = ap (λ (p : Span). p .next) (same-span (turned _ _ i 0 _ (w .reads) h));
         }

@@ -6,8 +6,7 @@ use mathlib.Core.Path.{_≡_}
 use mathlib.Core.List.{List, [], _∷_, _++_}
 use lib.ListN.{length}
 use Rattle.rules.specs.Rule.{Rule, Sheet}
-use Rattle.numbers.specs.declared.Read.{Read}
-use Rattle.numbers.specs.declared.Read.the-variants.{Got, Refused}
+use Rattle.numbers.specs.declared.Span.{Span}
 use Rattle.sheet.specs.Sheet.{sheetRead}
 use Rattle.sheet.specs.Meaning.{sheetMeant}
 use Rattle.sheet.specs.declared.Outline.{Outline}
@@ -32,23 +31,14 @@ pub record Decodable (s : List ℕ) (sheet : Outline) (c : List ℕ) : Type 0 wh
 abbrev pub allRows : Sheet → List Rule
 allRows sh = sh .rules ++ (listsRule sh ∷ [])
 
--- the rules are written, and their compute lists are left
-abbrev pub WroteRules : List ℕ → Outline → List ℕ → List ℕ → Read → Type 0
-WroteRules s o c c′ (Got rules) =
-    RowsLeft c (firstPair (o .rules .value)) (allRows (sheetMeant s o)) c′ (o .rules .value) (rules .value) (listsRule (sheetMeant s o) ∷ [])
-WroteRules s o c c′ (Refused why) = ⊥
-
-pub record WritesRules (s : List ℕ) (o : Outline) (c c′ : List ℕ) (r : Read) : Type 0 where
-  pub wrote : WroteRules s o c c′ r
+-- the rules are written, and the compute lists, at a place of the sheet, are left
+pub record WritesRules (s : List ℕ) (o : Outline) (c c′ : List ℕ) (end : Span) : Type 0 where
+  pub left :
+      RowsLeft c (firstPair (o .rules .value)) (allRows (sheetMeant s o)) c′ (o .rules .value) (end .value)
+      (listsRule (sheetMeant s o) ∷ [])
+  pub place : end .next ≡ o .rules .next
 
 pub record Decoded (s : List ℕ) (o : Outline) (c c′ : List ℕ) : Type 0 where
   pub laid : Laid c′ (o .atoms) (o .rules .value)
   pub sheet : tableSheet c′ (o .atoms) (o .rules .value) ≡ sheetMeant s o
   pub long : length c′ ≡ length c
-
-abbrev pub DecodedBy : List ℕ → Outline → List ℕ → List ℕ → Read → Type 0
-DecodedBy s o c c′ (Got rules) = Decoded s o c c′
-DecodedBy s o c c′ (Refused why) = ⊥
-
-pub record Decodes (s : List ℕ) (o : Outline) (c c′ : List ℕ) (r : Read) : Type 0 where
-  pub decoded : DecodedBy s o c c′ r

@@ -3,7 +3,7 @@
 use Prim.Native.Nat.{ℕ, _+_, _*_, _≤_}
 use mathlib.Core.Path.{_≡_}
 use mathlib.Core.List.{List, [], _∷_}
-use lib.ListN.{length}
+use lib.ListN.{length, set}
 use Rattle.rules.specs.Limits.{numberMost}
 use Rattle.rules.specs.Rule.{Weighted}
 use Rattle.table.specs.inner.Words.{pairWidth}
@@ -15,6 +15,11 @@ withPair c j atom weight = withWords c (pairWidth * j) (atom ∷ weight ∷ [])
 unfoldable pub withPairs : List ℕ → ℕ → List Weighted → List ℕ
 withPairs c j [] = c
 withPairs c j (l ∷ ls) = withPairs (withPair c j (l .atom) (l .weight)) (j + 1) ls
+
+-- weights over those of the pairs from pair j on
+unfoldable pub withWeights : List ℕ → ℕ → List ℕ → List ℕ
+withWeights c j [] = c
+withWeights c j (w ∷ ws) = withWeights (set c (pairWidth * j + 1) w) (j + 1) ws
 
 -- there is room for a pair, and its numbers are a sheet's
 pub record PairFits (c : List ℕ) (j atom weight : ℕ) : Type 0 where

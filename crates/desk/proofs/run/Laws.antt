@@ -7,9 +7,6 @@ use lib.ListN.{length, replicate}
 use Rattle.rules.specs.Limits.{bytesMost}
 use Rattle.rules.specs.Rule.{Sheet}
 use Rattle.numbers.specs.declared.Refusal.{Refusal}
-use Rattle.numbers.specs.declared.Span.{Span}
-use Rattle.numbers.specs.declared.Read.{Read}
-use Rattle.numbers.specs.declared.Read.the-variants.{Got, Refused}
 use Rattle.sheet.specs.Sheet.{sheetRead}
 use Rattle.sheet.specs.declared.Outline.{Outline}
 use Rattle.sheet.specs.declared.SheetRead.the-variants.{Accepted}
@@ -20,7 +17,7 @@ use Rattle.gate.specs.inner.Fit.{Fit, GateFits}
 use Rattle.gate.specs.declared.Task.{Task}
 use Rattle.gate.specs.declared.Gate.{Gate}
 use Rattle.gate.specs.declared.Gate.the-variants.{Stop, Go}
-use Rattle.decode.specs.inner.Decode.{tableWords, Decodable, Decoded, DecodedBy, Decodes}
+use Rattle.decode.specs.inner.Decode.{tableWords, Decodable, Decoded}
 use Rattle.weigh.proofs.Bytes.{blank-room}
 use Rattle.task.specs.inner.Perform.{Performs}
 use Rattle.task.specs.declared.Answer.{Answer}
@@ -29,12 +26,6 @@ use Rattle.desk.specs.declared.run.Served.{Served}
 use Rattle.desk.specs.declared.run.Served.the-variants.{Done, Refused as RefusedServed}
 
 module _ {s : List ℕ} {o : Outline} {c c′ : List ℕ} where
-  pub decoded : {r : Read} (p : Span) → Decodes s o c c′ r → r ≡ Got p → Decoded s o c c′
-  decoded p d e = subst (DecodedBy s o c c′) e (d .decoded)
-
-  pub never-refused : {r : Read} (why : Refusal) → Decodes s o c c′ r → r ≡ Refused why → ⊥
-  never-refused why d e = subst (DecodedBy s o c c′) e (d .decoded)
-
   pub performed :
       {m w w′ : List ℕ} {t : Task} {a : Answer} → Decoded s o c c′ → Performs (tableSheet c′ (o .atoms) (o .rules .value)) m t w w′ a
       → Serves s (Go o t) m w w′ (Done a)

@@ -1,17 +1,16 @@
 -- The groups of a number, read low group first into a sum: what is left of the number counts by the scale that has been reached.
 use Prim.Native.Nat.{ℕ, suc, _+_, _-_, _*_, _^_, _%_, _≤_, _<_}
 use mathlib.Core.Path.{_≡_, refl, ap, _∙_, sym}
-use mathlib.Core.Bool.{true, false, _&&_}
 use mathlib.Core.List.{List}
 use native.Mathlib.Omega.{arith}
-use native.Mathlib.Nat.{mul-assoc, mul-comm, add-mul, mul-le-mul-left, mul-le-mul-right, pow-le-pow-right, le-trans, pow-suc}
+use native.Mathlib.Nat.{mul-assoc, mul-comm, add-mul, mul-le-mul-left, mul-le-mul-right, pow-le-pow-right, le-trans, pow-suc, mod-eq-of-lt}
 use native.Mathlib.Numerals.{add-one}
 use lib.ListN.{length, getD}
-use lib.Dec.{ltb, eqb, lit<}
-use borrow.Author.Tests.{lt-ltb, le-ltb}
+use lib.Dec.{lit<}
+use borrow.Author.Tests.{lt-ltb, le-ltb, ne-eqb}
 use Rattle.rules.specs.Sum.{pick}
 use Rattle.numbers.specs.Answer.{readThen, span, refusal}
-use Rattle.numbers.specs.Number.{groupsFrom, higher, takenFrom}
+use Rattle.numbers.specs.Number.{groupsFrom, numberAt, higher, takenFrom, takenAt}
 use Rattle.numbers.specs.declared.Span.{Span}
 use Rattle.numbers.specs.declared.Read.{Read}
 use Rattle.numbers.specs.declared.Read.the-variants.{Got, Refused}
@@ -25,10 +24,10 @@ unfoldable pub scaled : ℕ → ℕ → Read → Read
 scaled sum scale (Got p) = Got (raised sum scale p)
 scaled sum scale (Refused why) = Refused why
 
-pub raised-once : (p : Span) → raised 0 1 p ≡ p
+raised-once : (p : Span) → raised 0 1 p ≡ p
 raised-once p = ap (λ (v : ℕ). span v (p .first) (p .next)) (omega arith)
 
-pub scaled-once : (a : Read) → scaled 0 1 a ≡ a
+scaled-once : (a : Read) → scaled 0 1 a ≡ a
 unfolding scaled
 scaled-once (Got p) = ap (λ (q : Span). Got q) (raised-once p)
 scaled-once (Refused why) = refl
@@ -42,7 +41,7 @@ raised-more sum scale low p = ap (λ (v : ℕ). span v (p .first) (p .next)) (re
         let f : 128 * v * scale ≡ v * (scale * 128) = mul-assoc 128 v scale ∙ mul-comm 128 (v * scale) ∙ mul-assoc v scale 128 in
         omega arith
 
-pub scaled-more :
+scaled-more :
     (sum scale low : ℕ) (a : Read)
     → scaled sum scale (readThen Refused a (λ high. Got (higher low high))) ≡ scaled (sum + low * scale) (scale * 128) a
 unfolding scaled readThen
@@ -78,17 +77,36 @@ module _ (s : List ℕ) (k first at sum scale : ℕ) where
   ended h e = simp (opened h, le-ltb _ _ e)
 
   module _ (h : k < 4) (l : at < length s) (group : ℕ) (g : group ≡ getD s at 0) where
-    pub needless : group < 128 → (ltb first at && eqb group 0) ≡ true → Refused (refusal 2 first) ≡ here
+    pub needless : first < at → group ≡ 0 → Refused (refusal 2 first) ≡ here
     unfolding scaled groupsFrom pick
-    needless b z = simp (opened h, lt-ltb _ _ l, ← g, lt-ltb _ _ b, z)
+    needless f z =
+        let e : getD s at 0 ≡ 0 = sym g ∙ z in
+        simp (opened h, lt-ltb _ _ l, e, lt-ltb _ _ f)
 
-    pub last : group < 128 → (ltb first at && eqb group 0) ≡ false → Got (span (sum + group * scale) first (at + 1)) ≡ here
+    pub last : first < at → group < 128 → (group ≡ 0 → ⊥) → Got (span (sum + group % 128 * scale) first (at + 1)) ≡ here
     unfolding scaled groupsFrom pick
-    last b z = simp (opened h, lt-ltb _ _ l, ← g, lt-ltb _ _ b, z)
+    last f b z = simp (opened h, lt-ltb _ _ l, ← g, lt-ltb _ _ b, lt-ltb _ _ f, ne-eqb _ _ z, mod-eq-of-lt b)
 
     pub more : 128 ≤ group → scaled (sum + group % 128 * scale) (scale * 128) (groupsFrom (4 - (k + 1)) s first (at + 1)) ≡ here
     unfolding groupsFrom pick
     more b = simp (opened h, lt-ltb _ _ l, ← g, le-ltb _ _ b, scaled-more)
+
+-- before the first group, and after it where more follow
+pub start : (s : List ℕ) (first : ℕ) → here s 0 first first 0 1 ≡ numberAt s first
+unfolding here numberAt
+start s first = scaled-once _
+
+low-group : (byte : ℕ) → 128 ≤ byte → byte < 256 → byte - 128 ≡ 0 + byte % 128 * 1
+low-group byte b w = omega arith
+
+pub started :
+    (s : List ℕ) (first byte : ℕ) → first < length s → byte ≡ getD s first 0 → 128 ≤ byte → byte < 256
+    → here s 1 first (first + 1) (byte - 128) 128 ≡ numberAt s first
+unfolding here
+started s first byte l g b w =
+    ap (λ (sum : ℕ). scaled sum 128 (groupsFrom 3 s first (first + 1))) (low-group byte b w)
+    ∙ more s 0 first first 0 1 (omega arith) l byte g b
+    ∙ start s first
 
 pub spent : (s : List ℕ) (k first at sum scale : ℕ) → 4 ≤ k → Refused (refusal 15 first) ≡ here s k first at sum scale
 unfolding here scaled groupsFrom
@@ -113,15 +131,28 @@ module _ (s : List ℕ) (k first at sum scale : ℕ) where
   taken-ended h e = simp (taken-opened h, le-ltb _ _ e) (raised-none sum scale first at)
 
   module _ (h : k < 4) (l : at < length s) (group : ℕ) (g : group ≡ getD s at 0) where
-    pub taken-last : group < 128 → span (sum + group * scale) first (at + 1) ≡ taken
+    pub taken-last : group < 128 → span (sum + group % 128 * scale) first (at + 1) ≡ taken
     unfolding takenFrom pick
-    taken-last b = simp (taken-opened h, lt-ltb _ _ l, ← g, lt-ltb _ _ b)
+    taken-last b = simp (taken-opened h, lt-ltb _ _ l, ← g, lt-ltb _ _ b, mod-eq-of-lt b)
 
     pub taken-more : 128 ≤ group → raised (sum + group % 128 * scale) (scale * 128) (takenFrom (4 - (k + 1)) s first (at + 1)) ≡ taken
     unfolding takenFrom pick
     taken-more b =
         simp (taken-opened h, lt-ltb _ _ l, ← g, le-ltb _ _ b)
         (sym (raised-more sum scale (group % 128) (takenFrom (4 - (k + 1)) s first (at + 1))))
+
+pub taken-start : (s : List ℕ) (first : ℕ) → taken s 0 first first 0 1 ≡ takenAt s first
+unfolding taken takenAt
+taken-start s first = raised-once _
+
+pub taken-started :
+    (s : List ℕ) (first byte : ℕ) → first < length s → byte ≡ getD s first 0 → 128 ≤ byte → byte < 256
+    → taken s 1 first (first + 1) (byte - 128) 128 ≡ takenAt s first
+unfolding taken
+taken-started s first byte l g b w =
+    ap (λ (sum : ℕ). raised sum 128 (takenFrom 3 s first (first + 1))) (low-group byte b w)
+    ∙ taken-more s 0 first first 0 1 (omega arith) l byte g b
+    ∙ taken-start s first
 
 pub taken-spent : (s : List ℕ) (k first at sum scale : ℕ) → 4 ≤ k → span sum first at ≡ taken s k first at sum scale
 unfolding taken takenFrom

@@ -32,7 +32,7 @@ use Rattle.sheet.proofs.sheet.Rules.{rules-ran}
 pub not-accepted : {o : Outline} (why : Refusal) → RefusedSheet why ≡ Accepted o → ⊥
 not-accepted why e = let z : _≡_ {A = ℕ} 0 1 = cc in omega arith
 
-same-outline : {o t : Outline} → Accepted o ≡ Accepted t → o ≡ t
+pub same-outline : {o t : Outline} → Accepted o ≡ Accepted t → o ≡ t
 same-outline e = cc
 
 -- the parts of an accepted sheet

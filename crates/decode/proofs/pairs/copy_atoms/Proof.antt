@@ -1,6 +1,7 @@
--- `copy_atoms` meets its contract. The loop's invariant: what is left of the list, written from here on, is the whole list.
+-- `copy_atoms` meets its contract. The loop's invariant: what is left of the list, written from here on, is the whole list, and ends at
+-- the same place.
 use Prim.Native.Nat.{_≤_, _-_}
-use mathlib.Core.Path.{sym, ap, subst}
+use mathlib.Core.Path.{_≡_, _∙_, sym, ap, subst}
 use native.Mathlib.Nat.{sub-zero}
 use native.Mathlib.Omega.{arith}
 use borrow.Author.Needs.{needs}
@@ -11,19 +12,23 @@ use Rattle.numbers.specs.Lists.{numbersFrom}
 use Rattle.numbers.specs.declared.Span.{Span}
 use Rattle.numbers.proofs.number.Taken.{taken-most}
 use Rattle.numbers.proofs.lists.Numbers.{numbers-turn, numbers-over}
+use Rattle.decode.specs.inner.Taken.{numbersPast}
+use Rattle.decode.proofs.Taken.{past-turn, past-over}
 use Rattle.decode.proofs.pairs.Copy.{PairsLeft, pairs-begin, left-turn, left-done, left-room}
 use Rattle.decode.proofs.pairs.copy_atoms.Statement.{statement}
 use Rattle.decode.proofs.pairs.copy_atoms.Tie as tie
 
 abbrev Inv-loop : tie.InvT-loop
 Inv-loop s count first code₀ from at₀ j₀ counter₀ code at j counter =
-    (counter ≤ count) × PairsLeft code₀ from (ones (numbersFrom count s first)) code j (ones (numbersFrom (count - counter) s at))
+    (counter ≤ count)
+    × PairsLeft code₀ from (ones (numbersFrom count s first)) code j (ones (numbersFrom (count - counter) s at))
+    × (numbersPast (count - counter) s at ≡ numbersPast count s first)
 
 abbrev μ-loop : tie.MeasureT-loop
 μ-loop s count first code₀ from at₀ j₀ counter₀ code at j counter = count - counter
 
 loop-holds : tie.Need-loop-holds Inv-loop μ-loop
-loop-holds c = (search needs, pairs-begin (simp sub-zero))
+loop-holds c = (search needs, pairs-begin (simp sub-zero), simp sub-zero)
 
 take-number-requires : tie.Need-take-number-requires Inv-loop μ-loop
 take-number-requires c κs = search needs
@@ -63,6 +68,8 @@ loop-again c =
           (ap ones
           (numbers-turn (now (a .s)) (a .count) (l .counter) (l .at) (taken .before .loop-test .taken) (taken .take-number .ensures)))
           (written .write-pair .ensures),
+      past-turn (now (a .s)) (a .count) (l .counter) (l .at) (taken .before .loop-test .taken) (taken .take-number .ensures)
+          ∙ l .inv .2,
     )
 
 same-length : tie.Need-same-length Inv-loop μ-loop
@@ -71,8 +78,10 @@ same-length c = c .before .loop .inv .1 .long
 returns : tie.Need-returns Inv-loop μ-loop
 returns c =
     let l = c .before .loop in
-    let a = c .before .before .before .before .args in
-    left-done (l .inv .1) (ap ones (numbers-over (now (a .s)) (a .count) (l .counter) (l .at) (c .loop-test .left)))
+    let a = c .before .before .before .before .args in (
+      left-done (l .inv .1) (ap ones (numbers-over (now (a .s)) (a .count) (l .counter) (l .at) (c .loop-test .left))),
+      sym (past-over (now (a .s)) (a .count) (l .counter) (l .at) (c .loop-test .left)) ∙ l .inv .2,
+    )
 
 pub copy-atoms-spec : {M : Type 1} → statement M
 copy-atoms-spec =

@@ -1,75 +1,55 @@
--- `write_rule` meets its contract. Its lists are written one after another, and then its row.
+-- `write_rule` meets its contract. The kind is taken, the heads are written, the bound is taken where there is one, and the rest follows.
 use borrow.Author.Needs.{needs}
 use denote.Ref.{now}
-use Rattle.decode.proofs.rows.Rule.{heads-ask, pos-ask, neg-ask, row-ask, rule-made}
+use Rattle.decode.proofs.rows.Rule.{heads-fit, rest-asks, rule-put}
 use Rattle.decode.proofs.rows.write_rule.Statement.{statement}
 use Rattle.decode.proofs.rows.write_rule.Tie as tie
 
-copy-heads-requires : tie.Need-copy-heads-requires
-copy-heads-requires c κs =
-    let start = c .before .before .before .before .before in
+take-number-requires : tie.Need-take-number-requires
+take-number-requires c κs = search needs
+
+write-heads-requires : tie.Need-write-heads-requires
+write-heads-requires c κs =
+    let kind = c .before in
+    let start = kind .before .before .before in
     let a = start .args in
-    heads-ask (now (a .s)) (a .rule) (now (a .code)) (a .i) (a .j) (start .pre)
+    heads-fit (now (a .s)) (a .at) (now (a .code)) (a .i) (a .j) (start .pre) _ (kind .take-number .ensures)
 
-copy-literals-requires : tie.Need-copy-literals-requires
-copy-literals-requires c κs =
-    let heads = c .before .before .before in
-    let start = heads .before .before .before .before .before .before in
+take-bound-requires : tie.Need-take-bound-requires
+take-bound-requires c κs = search needs
+
+write-rest-requires : tie.Need-write-rest-requires
+write-rest-requires c κs =
+    let bound = c .before in
+    let heads = bound .before .before .before in
+    let kind = heads .before .before in
+    let start = kind .before .before .before in
     let a = start .args in
-    (start .pre .meant .positive, pos-ask (now (a .s)) (a .rule) (now (a .code)) (a .i) (a .j) (start .pre) (heads .copy-heads .ensures))
-
-copy-literals-requires-2 : tie.Need-copy-literals-requires-2
-copy-literals-requires-2 c κs =
-    let pos = c .before .before .before in
-    let heads = pos .before .before .before .before in
-    let start = heads .before .before .before .before .before .before in
-    let a = start .args in (
-      start .pre .meant .negated,
-      neg-ask (now (a .s)) (a .rule) (now (a .code)) (a .i) (a .j) (start .pre) (heads .copy-heads .ensures)
-          (pos .copy-literals .ensures),
-    )
-
-kind-number-requires : tie.Need-kind-number-requires
-kind-number-requires c κs = search needs
-
-write-row-requires : tie.Need-write-row-requires
-write-row-requires c κs =
-    let neg = c .before .before .before .before in
-    let pos = neg .before .before .before .before in
-    let heads = pos .before .before .before .before in
-    let start = heads .before .before .before .before .before .before in
-    let a = start .args in
-    row-ask (now (a .s)) (a .rule) (now (a .code)) (a .i) (a .j) (start .pre) (heads .copy-heads .ensures)
-    (pos .copy-literals .ensures)
-    (neg .copy-literals2 .ensures)
-    (c .kind-number .ensures)
+    rest-asks (now (a .s)) (a .at) (now (a .code)) (a .i) (a .j) (start .pre) _ (kind .take-number .ensures)
+    (heads .write-heads .result)
+    (heads .write-heads .ensures)
+    _
+    (bound .take-bound .ensures)
 
 same-length : tie.Need-same-length
 same-length c = search needs
 
 returns : tie.Need-returns
 returns c =
-    let row = c .before .before in
-    let kind = row .before in
-    let neg = kind .before .before .before .before in
-    let pos = neg .before .before .before .before in
-    let heads = pos .before .before .before .before in
-    let start = heads .before .before .before .before .before .before in
+    let rest = c .before .before in
+    let bound = rest .before .before in
+    let heads = bound .before .before .before in
+    let kind = heads .before .before in
+    let start = kind .before .before .before in
     let a = start .args in
-    rule-made (now (a .s)) (a .rule) (now (a .code)) (a .i) (a .j) (start .pre) (heads .copy-heads .ensures)
-    (pos .copy-literals .ensures)
-    (neg .copy-literals2 .ensures)
-    (kind .kind-number .ensures)
-    (row .write-row .ensures)
+    rule-put (now (a .s)) (a .at) (now (a .code)) (a .i) (a .j) (start .pre) _ (kind .take-number .ensures)
+    (heads .write-heads .result)
+    (heads .write-heads .ensures)
+    _
+    (bound .take-bound .ensures)
+    _
+    (rest .write-rest .ensures)
 
 pub write-rule-spec : {M : Type 1} → statement M
 write-rule-spec =
-    tie.close
-    (tie.spec
-    copy-heads-requires
-    copy-literals-requires
-    copy-literals-requires-2
-    kind-number-requires
-    write-row-requires
-    same-length
-    returns)
+    tie.close (tie.spec take-number-requires write-heads-requires take-bound-requires write-rest-requires same-length returns)

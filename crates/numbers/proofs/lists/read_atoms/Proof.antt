@@ -1,7 +1,6 @@
--- `read_atoms` meets its contract. The loop's invariant: the run of the atoms that are left, from here on, is the whole answer.
+-- `read_atoms` meets its contract: the atoms of one byte are passed first. The loop's invariant: the run of the atoms that are left, from here on, is the whole answer.
 use Prim.Native.Nat.{_≤_, _-_}
 use mathlib.Core.Path.{_≡_}
-use native.Mathlib.Nat.{sub-zero}
 use native.Mathlib.Omega.{arith}
 use borrow.Author.Needs.{needs}
 use Rattle.numbers.specs.Answer.{span}
@@ -18,8 +17,14 @@ Inv-loop s n count first above₀ at₀ counter₀ above at counter =
 abbrev μ-loop : tie.MeasureT-loop
 μ-loop s n count first above₀ at₀ counter₀ above at counter = count - counter
 
+short-atoms-requires : tie.Need-short-atoms-requires Inv-loop μ-loop
+short-atoms-requires c κs = search needs
+
+sub-counter : tie.Need-sub-counter Inv-loop μ-loop
+sub-counter c = omega arith
+
 loop-holds : tie.Need-loop-holds Inv-loop μ-loop
-loop-holds c = (search needs, simp sub-zero)
+loop-holds c = (omega arith, c .short-atoms .ensures .rest)
 
 read-atom-requires : tie.Need-read-atom-requires Inv-loop μ-loop
 read-atom-requires c κs = search needs
@@ -61,6 +66,8 @@ read-atoms-spec =
     (tie.spec
     Inv-loop
     μ-loop
+    short-atoms-requires
+    sub-counter
     loop-holds
     read-atom-requires
     enum-known-got

@@ -1,7 +1,7 @@
--- `read_weights` meets its contract. The loop's invariant: the run of the weights that are left, from here on, is the whole answer.
+-- `read_weights` meets its contract. The loop's invariant: the run of the weights that are left, from here on, is the whole answer. It
+-- holds where the loop begins, since `short_weights` hands over just that.
 use Prim.Native.Nat.{_≤_, _-_}
 use mathlib.Core.Path.{_≡_, _∙_}
-use native.Mathlib.Nat.{sub-zero}
 use native.Mathlib.Omega.{arith}
 use borrow.Author.Needs.{needs}
 use Rattle.rules.specs.Limits.{weightMost}
@@ -20,9 +20,15 @@ Inv-loop s count first at₀ counter₀ at counter =
 abbrev μ-loop : tie.MeasureT-loop
 μ-loop s count first at₀ counter₀ at counter = count - counter
 
+short-weights-requires : tie.Need-short-weights-requires Inv-loop μ-loop
+short-weights-requires c κs = search needs
+
+sub-counter : tie.Need-sub-counter Inv-loop μ-loop
+sub-counter c = c .short-weights .ensures .begun
+
 loop-holds : tie.Need-loop-holds Inv-loop μ-loop
 unfolding weightsAt
-loop-holds c = (search needs, simp sub-zero)
+loop-holds c = let a = c .short-weights .ensures in (omega (arith, a .few), a .rest)
 
 read-within-requires : tie.Need-read-within-requires Inv-loop μ-loop
 read-within-requires c κs = search needs
@@ -67,6 +73,8 @@ read-weights-spec =
     (tie.spec
     Inv-loop
     μ-loop
+    short-weights-requires
+    sub-counter
     loop-holds
     read-within-requires
     enum-known-got

@@ -1,7 +1,8 @@
--- `read_choice` meets its contract: a list of heads, and then the body.
+-- `read_choice` meets its contract: a list of heads.
+use mathlib.Core.Path.{refl}
 use borrow.Author.Needs.{needs}
-use Rattle.numbers.proofs.Answer.{ways}
-use Rattle.sheet.specs.Rule.{choiceAt}
+use Rattle.numbers.proofs.Answer.{got, handed}
+use Rattle.sheet.specs.inner.Head.{choiceHead}
 use Rattle.sheet.proofs.rule.read_choice.Statement.{statement}
 use Rattle.sheet.proofs.rule.read_choice.Tie as tie
 
@@ -15,23 +16,17 @@ enum-known-why : tie.Need-enum-known-why
 enum-known-why c = search needs
 
 returns : tie.Need-returns
-unfolding choiceAt
-returns c = search ways depth 16
-
-read-body-requires : tie.Need-read-body-requires
-read-body-requires c κs = search needs
+unfolding choiceHead
+returns c =
+    let heads = c .before in
+    got _ _ _ _ _ _ _ (heads .before .before .read-list .ensures) (heads .heads .given .1) refl
 
 returns-2 : tie.Need-returns-2
-unfolding choiceAt
-returns-2 c = search ways depth 16
+unfolding choiceHead
+returns-2 c =
+    let why = c .before in
+    handed _ _ _ _ _ _ _ (why .before .before .read-list .ensures) (why .why .given .1) refl
 
 pub read-choice-spec : {M : Type 1} → statement M
 read-choice-spec =
-    tie.close
-    (tie.spec
-    read-list-requires
-    enum-known-heads
-    enum-known-why
-    returns
-    read-body-requires
-    returns-2)
+    tie.close (tie.spec read-list-requires enum-known-heads enum-known-why returns returns-2)
