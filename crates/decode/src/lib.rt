@@ -20,7 +20,7 @@ pub const FEW_BYTES: usize = 4_096;
 
 pub const FEW_WORDS: usize = 8_194;
 
-// Write an accepted sheet as a table: each of its numbers is taken once, and none is tested again. The compute lists are written as the
+// Write an accepted sheet as a table: each of its numbers is taken once, and none can be refused. The compute lists are written as the
 // body of a choice with no heads, which gives and forces nothing.
 pub fn decode(s: &[u8], sheet: Outline, code: &mut [u32])
     requires { ⌜ Decodable (now s) sheet (now code) ⌝ }

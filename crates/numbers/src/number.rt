@@ -54,7 +54,7 @@ pub fn read_number(s: &[u8], first: usize) -> Read
     refused(15, first)
 }
 
-// The number at a place where one was read before: nothing is tested again.
+// The number at a place where one was read before: nothing is refused.
 pub fn take_number(s: &[u8], first: usize) -> Span
     ensures { λ r. ⌜ r ≡ takenAt (now (s .entry)) first ⌝ }
 {
