@@ -12,6 +12,7 @@ use Rattle.sheet.specs.shown.Encode.{rulesSize}
 use Rattle.sheet.specs.declared.Outline.{Outline}
 use Rattle.sheet.proofs.sheet.Ran.{SheetParts, parts}
 use Rattle.table.specs.inner.Words.{rowWidth, pairWidth}
+use Rattle.decode.specs.declared.pairs.Reached.{Reached}
 use Rattle.decode.specs.inner.Taken.{ruleOf}
 use Rattle.decode.specs.inner.Rows.{firstPair, listsRule, withRules, TableRoom, RowsLeft, RestAsks, RestPut}
 use Rattle.decode.specs.inner.Decode.{allRows, Decodable, WritesRules, Decoded}
@@ -20,7 +21,7 @@ use Rattle.decode.proofs.rows.Left.{room-one, left-turn}
 use Rattle.decode.proofs.rows.Rule.{headless}
 use Rattle.decode.proofs.Decoded.{decoded}
 
-module _ {s : List ℕ} {o : Outline} {c : List ℕ} (ready : Decodable s o c) {c₁ : List ℕ} (rules : Span) (wrote : WritesRules s o c c₁ rules) where
+module _ {s : List ℕ} {o : Outline} {c : List ℕ} (ready : Decodable s o c) {c₁ : List ℕ} (rules : Reached) (wrote : WritesRules s o c c₁ rules) where
   -- where the bound of a rule would end, the lists begin
   abbrev none : Span
   none = span 0 (rules .next) (rules .next)
@@ -39,10 +40,10 @@ module _ {s : List ℕ} {o : Outline} {c : List ℕ} (ready : Decodable s o c) {
       (ap (λ (p : ℕ). ruleOf s (kindNumber choice) [] (span 0 p p)) (wrote .place)
       ∙ lists-taken s (o .atoms) (o .rules .next) (o .ins) (o .outs) (read .fifth) (read .sixth) .rule))
 
-  room : TableRoom c₁ (o .rules .value) (rules .value) (lists ∷ [])
+  room : TableRoom c₁ (o .rules .value) (rules .pair) (lists ∷ [])
   room = room-one (wrote .left) lists lists-are
 
-  pub lists-ask : RestAsks s (kindNumber choice) none c₁ (o .rules .value) (rules .value) (rules .value)
+  pub lists-ask : RestAsks s (kindNumber choice) none c₁ (o .rules .value) (rules .pair) (rules .pair)
   unfolding numberMost rulesSize rowWidth pairWidth
   lists-ask =
       let h = room in
@@ -55,12 +56,12 @@ module _ {s : List ℕ} {o : Outline} {c : List ℕ} (ready : Decodable s o c) {
         boundMost = omega arith;
       }
 
-  module _ {d : List ℕ} (end : Span) (put : RestPut s (kindNumber choice) none c₁ (o .rules .value) (rules .value) (rules .value) d end) where
-    none-left : RowsLeft c (firstPair (o .rules .value)) (allRows (sheetMeant s o)) d (o .rules .value + 1) (end .value) []
-    none-left = let w = headless s none c₁ (o .rules .value) (rules .value) end put in left-turn (wrote .left) lists lists-are (w .0) (w .1)
+  module _ {d : List ℕ} (end : Reached) (put : RestPut s (kindNumber choice) none c₁ (o .rules .value) (rules .pair) (rules .pair) d end) where
+    none-left : RowsLeft c (firstPair (o .rules .value)) (allRows (sheetMeant s o)) d (o .rules .value + 1) (end .pair) []
+    none-left = let w = headless s none c₁ (o .rules .value) (rules .pair) end put in left-turn (wrote .left) lists lists-are (w .0) (w .1)
 
-    pub ending-room : TableRoom d (o .rules .value + 1) (end .value) []
+    pub ending-room : TableRoom d (o .rules .value + 1) (end .pair) []
     ending-room = none-left .room
 
-    pub ended : {f : List ℕ} → f ≡ withRules d (o .rules .value + 1) (end .value) [] → Decoded s o c f
+    pub ended : {f : List ℕ} → f ≡ withRules d (o .rules .value + 1) (end .pair) [] → Decoded s o c f
     ended code = decoded s o c ready (code ∙ none-left .code)

@@ -33,6 +33,6 @@ pub fn decode(s: &[u8], sheet: Outline, code: &mut [u32])
         first: rules.next,
         next: rules.next,
     };
-    let lists = write_rest(s, CHOICE, none, code, count, rules.value, rules.value);
-    end_rows(code, count + 1, lists.value);
+    let lists = write_rest(s, CHOICE, none, code, count, rules.pair, rules.pair);
+    end_rows(code, count + 1, lists.pair);
 }

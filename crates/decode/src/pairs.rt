@@ -9,9 +9,14 @@ ghost use Rattle.table.specs.inner.Words.{pairWidth};
 ghost use Rattle.decode.specs.inner.Taken.{numbersPast, listTaken, listPast};
 ghost use Rattle.decode.specs.inner.Pairs.{PairFits, PairsFit, PairsCopied, withWeights};
 use super::words::set_word;
-use numbers::Span;
 use numbers::take_number;
 use table::PAIR;
+
+// How far writing has come: the pair after what was written, and the place after what was taken from the sheet.
+pub(crate) struct Reached {
+    pub pair: usize,
+    pub next: usize,
+}
 
 // One atom and its weight; and the pair after them.
 pub(crate) fn write_pair(code: &mut [u32], j: usize, atom: usize, weight: usize) -> usize
@@ -24,9 +29,9 @@ pub(crate) fn write_pair(code: &mut [u32], j: usize, atom: usize, weight: usize)
 }
 
 // So many atoms that stand at a place of the sheet, each with weight 1; and the pair and the place after them.
-fn copy_atoms(s: &[u8], count: usize, first: usize, code: &mut [u32], from: usize) -> Span
+fn copy_atoms(s: &[u8], count: usize, first: usize, code: &mut [u32], from: usize) -> Reached
     requires { ⌜ PairsFit (now code) from (ones (numbersFrom count (now s) first)) ⌝ }
-    ensures { λ r. ⌜ PairsCopied (now (code .entry)) from (ones (numbersFrom count (now (s .entry)) first)) (now (code .exit)) (r .value) × (r .next ≡ numbersPast count (now (s .entry)) first) ⌝ }
+    ensures { λ r. ⌜ PairsCopied (now (code .entry)) from (ones (numbersFrom count (now (s .entry)) first)) (now (code .exit)) (r .pair) × (r .next ≡ numbersPast count (now (s .entry)) first) ⌝ }
 {
     let mut at = first;
     let mut j = from;
@@ -35,17 +40,13 @@ fn copy_atoms(s: &[u8], count: usize, first: usize, code: &mut [u32], from: usiz
         j = write_pair(code, j, atom.value, 1);
         at = atom.next;
     }
-    Span {
-        value: j,
-        first,
-        next: at,
-    }
+    Reached { pair: j, next: at }
 }
 
 // The list at a place of the sheet, each atom with weight 1; and the pair and the place after it.
-pub(crate) fn copy_list(s: &[u8], at: usize, code: &mut [u32], from: usize) -> Span
+pub(crate) fn copy_list(s: &[u8], at: usize, code: &mut [u32], from: usize) -> Reached
     requires { ⌜ PairsFit (now code) from (ones (listTaken (now s) at)) ⌝ }
-    ensures { λ r. ⌜ PairsCopied (now (code .entry)) from (ones (listTaken (now (s .entry)) at)) (now (code .exit)) (r .value) × (r .next ≡ listPast (now (s .entry)) at) ⌝ }
+    ensures { λ r. ⌜ PairsCopied (now (code .entry)) from (ones (listTaken (now (s .entry)) at)) (now (code .exit)) (r .pair) × (r .next ≡ listPast (now (s .entry)) at) ⌝ }
 {
     let count = take_number(s, at);
     copy_atoms(s, count.value, count.next, code, from)

@@ -8,6 +8,7 @@ ghost use Rattle.decode.specs.inner.Taken.{headsTaken, headsPast, hasBou
 ghost use Rattle.decode.specs.inner.Pairs.{PairsFit, PairsCopied};
 ghost use Rattle.decode.specs.inner.Rows.{BodyAsks, BodyPut, RestAsks, RestPut, RowAsks, RuleAsks, RulePut, TableRoom, withRow, withRules, firstPair};
 ghost use Rattle.decode.specs.inner.Decode.{Decodable, WritesRules};
+use super::pairs::Reached;
 use super::pairs::copy_list;
 use super::pairs::copy_weights;
 use super::pairs::write_pair;
@@ -28,17 +29,16 @@ pub(crate) struct BodyEnds {
 }
 
 // The heads of a rule of this kind, as pairs from j on; and the pair and the place after them.
-fn write_heads(s: &[u8], kind: usize, at: usize, code: &mut [u32], j: usize) -> Span
+fn write_heads(s: &[u8], kind: usize, at: usize, code: &mut [u32], j: usize) -> Reached
     requires { ⌜ PairsFit (now code) j (ones (headsTaken (now s) kind at)) ⌝ }
-    ensures { λ r. ⌜ PairsCopied (now (code .entry)) j (ones (headsTaken (now (s .entry)) kind at)) (now (code .exit)) (r .value) × (r .next ≡ headsPast (now (s .entry)) kind at) ⌝ }
+    ensures { λ r. ⌜ PairsCopied (now (code .entry)) j (ones (headsTaken (now (s .entry)) kind at)) (now (code .exit)) (r .pair) × (r .next ≡ headsPast (now (s .entry)) kind at) ⌝ }
 {
     if kind == CHOICE {
         return copy_list(s, at, code, j);
     }
     let head = take_number(s, at);
-    Span {
-        value: write_pair(code, j, head.value, 1),
-        first: at,
+    Reached {
+        pair: write_pair(code, j, head.value, 1),
         next: head.next,
     }
 }
@@ -80,9 +80,9 @@ fn write_body(s: &[u8], weighs: bool, at: usize, code: &mut [u32], j: usize) -> 
     ensures { λ r. ⌜ BodyPut (now (s .entry)) weighs at (now (code .entry)) j (now (code .exit)) r ⌝ }
 {
     let positive = copy_list(s, at, code, j);
-    let negated = copy_list(s, positive.next, code, positive.value);
-    let negatives = positive.value;
-    let end = negated.value;
+    let negated = copy_list(s, positive.next, code, positive.pair);
+    let negatives = positive.pair;
+    let end = negated.pair;
     if weighs {
         let above = copy_weights(s, negated.next, code, j, negatives);
         let next = copy_weights(s, above, code, negatives, end);
@@ -128,7 +128,7 @@ pub(crate) fn write_rest(
     i: usize,
     heads: usize,
     j: usize,
-) -> Span
+) -> Reached
     requires { ⌜ RestAsks (now s) kind bound (now code) i heads j ⌝ }
     ensures { λ r. ⌜ RestPut (now (s .entry)) kind bound (now (code .entry)) i heads j (now (code .exit)) r ⌝ }
 {
@@ -136,22 +136,21 @@ pub(crate) fn write_rest(
     let end = body.end;
     let due = need(kind, bound.value, end - j);
     write_row(code, i, kind, due, heads, j, body.negatives);
-    Span {
-        value: end,
-        first: bound.next,
+    Reached {
+        pair: end,
         next: body.next,
     }
 }
 
 // The rule at a place, as row i and as pairs from j on; and the pair and the place after it.
-fn write_rule(s: &[u8], at: usize, code: &mut [u32], i: usize, j: usize) -> Span
+fn write_rule(s: &[u8], at: usize, code: &mut [u32], i: usize, j: usize) -> Reached
     requires { ⌜ RuleAsks (now s) at (now code) i j ⌝ }
     ensures { λ r. ⌜ RulePut (now (s .entry)) at (now (code .entry)) i j (now (code .exit)) r ⌝ }
 {
     let kind = take_number(s, at);
     let heads = write_heads(s, kind.value, kind.next, code, j);
     let bound = take_bound(s, kind.value, heads.next);
-    write_rest(s, kind.value, bound, code, i, j, heads.value)
+    write_rest(s, kind.value, bound, code, i, j, heads.pair)
 }
 
 // The row after the last one: where the last rule ends.
@@ -171,7 +170,7 @@ fn first_pair(count: usize) -> usize
 }
 
 // The rules of a sheet, as rows and as pairs; and the pair and the place after them.
-pub(crate) fn write_rules(s: &[u8], sheet: Outline, code: &mut [u32]) -> Span
+pub(crate) fn write_rules(s: &[u8], sheet: Outline, code: &mut [u32]) -> Reached
     requires { ⌜ Decodable (now s) sheet (now code) ⌝ }
     ensures { λ r. ⌜ WritesRules (now (s .entry)) sheet (now (code .entry)) (now (code .exit)) r ⌝ }
 {
@@ -181,12 +180,8 @@ pub(crate) fn write_rules(s: &[u8], sheet: Outline, code: &mut [u32]) -> Span
     let mut j = first_pair(count);
     for i in 0..count {
         let rule = write_rule(s, at, code, i, j);
-        j = rule.value;
+        j = rule.pair;
         at = rule.next;
     }
-    Span {
-        value: j,
-        first: rules.first,
-        next: at,
-    }
+    Reached { pair: j, next: at }
 }

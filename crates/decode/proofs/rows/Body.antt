@@ -9,7 +9,6 @@ use lib.ListN.{length, length-map}
 use Rattle.rules.specs.Sum.{pick}
 use Rattle.rules.specs.Rule.{one, ones}
 use Rattle.numbers.specs.Lists.{numbersFrom}
-use Rattle.numbers.specs.declared.Span.{Span}
 use Rattle.numbers.proofs.lists.Numbers.{numbers-count}
 use Rattle.sheet.specs.Meaning.{paired}
 use Rattle.sheet.proofs.rule.Apart.{weigh-length}
@@ -17,6 +16,7 @@ use Rattle.table.specs.inner.Words.{pairWidth}
 use Rattle.decode.specs.inner.Taken.{numbersPast, listTaken, listPast, literalsTaken, literalsPast, bodyTaken}
 use Rattle.decode.specs.inner.Pairs.{withPairs, withWeights, PairsFit, PairsCopied}
 use Rattle.decode.specs.inner.Rows.{BodyAsks, BodyPut}
+use Rattle.decode.specs.declared.pairs.Reached.{Reached}
 use Rattle.decode.specs.declared.rows.BodyEnds.{BodyEnds}
 use Rattle.decode.proofs.pairs.Copy.{asks-as, copied-as, copied-long}
 use Rattle.decode.proofs.pairs.Weights.{weights-on, weights-below, weights-long}
@@ -62,40 +62,40 @@ module _ (s : List ℕ) (weighs : Bool) (at : ℕ) (c : List ℕ) (j : ℕ) (ask
   unfolding pairWidth
   first-fits = record { room = omega (arith, room, length-map xs one) }
 
-  module _ {c₁ : List ℕ} (p : Span) (first : PairsCopied c j (ones xs) c₁ (p .value) × (p .next ≡ listPast s at)) where
-    middle : p .value ≡ j + length xs
+  module _ {c₁ : List ℕ} (p : Reached) (first : PairsCopied c j (ones xs) c₁ (p .pair) × (p .next ≡ listPast s at)) where
+    middle : p .pair ≡ j + length xs
     middle = omega (arith, first .0 .end, length-map xs one)
 
     next-list : listTaken s (p .next) ≡ ys
     next-list = ap (listTaken s) (first .1)
 
-    pub second-fits : PairsFit c₁ (p .value) (ones (listTaken s (p .next)))
+    pub second-fits : PairsFit c₁ (p .pair) (ones (listTaken s (p .next)))
     unfolding pairWidth
     second-fits =
         asks-as (ap ones (sym next-list)) (record { room = omega (arith, room, middle, length-map ys one, copied-long (first .0)) })
 
     module _
         {c₂ : List ℕ}
-        (q : Span)
-        (second : PairsCopied c₁ (p .value) (ones (listTaken s (p .next))) c₂ (q .value) × (q .next ≡ listPast s (p .next)))
+        (q : Reached)
+        (second : PairsCopied c₁ (p .pair) (ones (listTaken s (p .next))) c₂ (q .pair) × (q .next ≡ listPast s (p .next)))
       where
-        written : PairsCopied c₁ (p .value) (ones ys) c₂ (q .value)
+        written : PairsCopied c₁ (p .pair) (ones ys) c₂ (q .pair)
         written = copied-as (ap ones (sym next-list)) (second .0)
 
-        end : q .value ≡ p .value + length ys
+        end : q .pair ≡ p .pair + length ys
         end = omega (arith, written .end, length-map ys one)
 
         past : q .next ≡ listPast s (listPast s at)
         past = second .1 ∙ ap (listPast s) (first .1)
 
-        lists : c₂ ≡ withPairs (withPairs c j (ones xs)) (p .value) (ones ys)
-        lists = written .code ∙ ap (λ (d : List ℕ). withPairs d (p .value) (ones ys)) (first .0 .code)
+        lists : c₂ ≡ withPairs (withPairs c j (ones xs)) (p .pair) (ones ys)
+        lists = written .code ∙ ap (λ (d : List ℕ). withPairs d (p .pair) (ones ys)) (first .0 .code)
 
         made :
-            {d : List ℕ} {next : ℕ} → d ≡ withPairs (withPairs c j (bodyTaken s weighs at .pos)) (p .value) (bodyTaken s weighs at .neg)
-            → next ≡ bodyTaken s weighs at .next → BodyPut s weighs at c j d (ends (p .value) (q .value) next)
+            {d : List ℕ} {next : ℕ} → d ≡ withPairs (withPairs c j (bodyTaken s weighs at .pos)) (p .pair) (bodyTaken s weighs at .neg)
+            → next ≡ bodyTaken s weighs at .next → BodyPut s weighs at c j d (ends (p .pair) (q .pair) next)
         made e f =
-            let z : p .value ≡ j + length (bodyTaken s weighs at .pos) = omega (arith, middle, pos-length) in
+            let z : p .pair ≡ j + length (bodyTaken s weighs at .pos) = omega (arith, middle, pos-length) in
             record {
               code = e ∙ ap (λ (k : ℕ). withPairs (withPairs c j (bodyTaken s weighs at .pos)) k (bodyTaken s weighs at .neg)) z;
               negatives = z;
@@ -103,11 +103,11 @@ module _ (s : List ℕ) (weighs : Bool) (at : ℕ) (c : List ℕ) (j : ℕ) (ask
               next = f;
             }
 
-        pub plain-put : weighs ≡ false → BodyPut s weighs at c j c₂ (ends (p .value) (q .value) (q .next))
+        pub plain-put : weighs ≡ false → BodyPut s weighs at c j c₂ (ends (p .pair) (q .pair) (q .next))
         unfolding bodyTaken literalsTaken literalsPast pick
         plain-put e = made (simp e lists) (simp e past)
 
-        pub above-asks : (j ≤ p .value) × (pairWidth * p .value ≤ length c₂)
+        pub above-asks : (j ≤ p .pair) × (pairWidth * p .pair ≤ length c₂)
         unfolding pairWidth
         above-asks = (omega (arith, middle), omega (arith, room, middle, copied-long (first .0), copied-long written))
 
@@ -115,10 +115,10 @@ module _ (s : List ℕ) (weighs : Bool) (at : ℕ) (c : List ℕ) (j : ℕ) (ask
             {c₃ : List ℕ}
             {v : ℕ}
             (above :
-            (c₃ ≡ withWeights c₂ j (numbersFrom (p .value - j) s (q .next)))
-            × (v ≡ numbersPast (p .value - j) s (q .next)))
+            (c₃ ≡ withWeights c₂ j (numbersFrom (p .pair - j) s (q .next)))
+            × (v ≡ numbersPast (p .pair - j) s (q .next)))
           where
-            pub below-asks : (p .value ≤ q .value) × (pairWidth * q .value ≤ length c₃)
+            pub below-asks : (p .pair ≤ q .pair) × (pairWidth * q .pair ≤ length c₃)
             unfolding pairWidth
             below-asks = (
               omega (arith, end),
@@ -142,27 +142,27 @@ module _ (s : List ℕ) (weighs : Bool) (at : ℕ) (c : List ℕ) (j : ℕ) (ask
             abbrev ws : List ℕ
             ws = numbersFrom (length ys) s (numbersPast (length xs) s place)
 
-            vs-are : numbersFrom (p .value - j) s (q .next) ≡ vs
+            vs-are : numbersFrom (p .pair - j) s (q .next) ≡ vs
             vs-are = ap₂ (λ (k m : ℕ). numbersFrom k s m) (omega (arith, middle)) past
 
             v-is : v ≡ numbersPast (length xs) s place
             v-is = above .1 ∙ ap₂ (λ (k m : ℕ). numbersPast k s m) (omega (arith, middle)) past
 
-            ws-are : numbersFrom (q .value - p .value) s v ≡ ws
+            ws-are : numbersFrom (q .pair - p .pair) s v ≡ ws
             ws-are = ap₂ (λ (k m : ℕ). numbersFrom k s m) (omega (arith, end)) v-is
 
             pub weighed-put :
                 weighs ≡ true → {d : List ℕ} {next : ℕ}
-                → (d ≡ withWeights c₃ (p .value) (numbersFrom (q .value - p .value) s v))
-                × (next ≡ numbersPast (q .value - p .value) s v)
-                → BodyPut s weighs at c j d (ends (p .value) (q .value) next)
+                → (d ≡ withWeights c₃ (p .pair) (numbersFrom (q .pair - p .pair) s v))
+                × (next ≡ numbersPast (q .pair - p .pair) s v)
+                → BodyPut s weighs at c j d (ends (p .pair) (q .pair) next)
             unfolding bodyTaken literalsTaken literalsPast pick
             weighed-put e below =
                 made
                 (below .0
-                ∙ ap₂ (λ (d ws : List ℕ). withWeights d (p .value) ws)
+                ∙ ap₂ (λ (d ws : List ℕ). withWeights d (p .pair) ws)
                 (above .0 ∙ ap₂ (λ (d vs : List ℕ). withWeights d j vs) lists vs-are)
                 ws-are
-                ∙ weigh-both c j (p .value) xs ys vs ws middle (sym (numbers-count s (length xs) _)) (sym (numbers-count s (length ys) _))
+                ∙ weigh-both c j (p .pair) xs ys vs ws middle (sym (numbers-count s (length xs) _)) (sym (numbers-count s (length ys) _))
                 ∙ sym (simp e refl))
                 (simp e (below .1 ∙ ap₂ (λ (k m : ℕ). numbersPast k s m) (omega (arith, end)) v-is))

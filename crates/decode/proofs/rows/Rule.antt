@@ -11,7 +11,6 @@ use borrow.Author.Tests.{eq-eqb, ne-eqb}
 use Rattle.rules.specs.Sum.{pick}
 use Rattle.rules.specs.Limits.{numberMost}
 use Rattle.rules.specs.Rule.{Rule, one, ones, weighted, kindNumber, choice, weight}
-use Rattle.numbers.specs.Answer.{span}
 use Rattle.numbers.specs.Number.{takenAt}
 use Rattle.numbers.specs.declared.Span.{Span}
 use Rattle.numbers.proofs.number.Taken.{taken-most}
@@ -21,6 +20,7 @@ use Rattle.table.specs.inner.Rows.{kindOf}
 use Rattle.decode.specs.inner.Taken.{listTaken, listPast, Body, bodyLength, restTaken, hasBound, headsTaken, headsPast, boundTaken, needTaken, ruleOf, ruleBound, ruleTaken, rulePast}
 use Rattle.decode.specs.inner.Pairs.{withPairs, PairsFit, PairsCopied}
 use Rattle.decode.specs.inner.Rows.{positivesFrom, negativesFrom, endFrom, withBody, withRow, withRule, BodyPut, RowAsks, RestAsks, RestPut, RuleAsks, RulePut}
+use Rattle.decode.specs.declared.pairs.Reached.{Reached}
 use Rattle.decode.specs.declared.rows.BodyEnds.{BodyEnds}
 use Rattle.decode.proofs.pairs.Laws.{pairs-long}
 use Rattle.decode.proofs.pairs.Copy.{asks-as, copied-as, copied-long}
@@ -92,7 +92,7 @@ module _ (s : List ℕ) (kind : ℕ) (bound : Span) (c : List ℕ) (i heads j : 
 
       pub rest-put :
           {d : List ℕ} → d ≡ withRow c₁ i kind need heads j (ends .negatives)
-          → RestPut s kind bound c i heads j d (span (ends .end) (bound .next) (ends .next))
+          → RestPut s kind bound c i heads j d (record { pair = ends .end; next = ends .next })
       rest-put e =
           record {
             code =
@@ -120,17 +120,17 @@ module _ (s : List ℕ) (at : ℕ) (c : List ℕ) (i j : ℕ) (asks : RuleAsks s
 
     module _
         {c₁ : List ℕ}
-        (h : Span)
+        (h : Reached)
         (heads :
-        PairsCopied c j (ones (headsTaken s (k .value) (k .next))) c₁ (h .value)
+        PairsCopied c j (ones (headsTaken s (k .value) (k .next))) c₁ (h .pair)
         × (h .next ≡ headsPast s (k .value) (k .next)))
         (b : Span)
         (bound : b ≡ boundTaken s (k .value) (h .next))
       where
-        written : PairsCopied c j (ones (rule .heads)) c₁ (h .value)
+        written : PairsCopied c j (ones (rule .heads)) c₁ (h .pair)
         written = copied-as (sym heads-are) (heads .0)
 
-        first : h .value ≡ positivesFrom j rule
+        first : h .pair ≡ positivesFrom j rule
         unfolding positivesFrom
         first = omega (arith, written .end, length-map (rule .heads) one)
 
@@ -143,7 +143,7 @@ module _ (s : List ℕ) (at : ℕ) (c : List ℕ) (i j : ℕ) (asks : RuleAsks s
         body-is : restTaken s (k .value) b ≡ restTaken s (takenAt s at .value) (ruleBound s at)
         body-is = ap₂ (λ (q : Span) (d : Span). restTaken s (q .value) d) taken bound-is
 
-        pub rest-asks : RestAsks s (k .value) b c₁ i j (h .value)
+        pub rest-asks : RestAsks s (k .value) b c₁ i j (h .pair)
         unfolding ruleTaken rulesSize rowWidth pairWidth positivesFrom
         rest-asks =
             let l = ap bodyLength body-is in
@@ -156,7 +156,7 @@ module _ (s : List ℕ) (at : ℕ) (c : List ℕ) (i j : ℕ) (asks : RuleAsks s
               boundMost = subst (λ (q : Span). q .value ≤ numberMost) (sym bound) (bound-most s (k .value) (h .next));
             }
 
-        pub rule-put : {d : List ℕ} (end : Span) → RestPut s (k .value) b c₁ i j (h .value) d end → RulePut s at c i j d end
+        pub rule-put : {d : List ℕ} (end : Reached) → RestPut s (k .value) b c₁ i j (h .pair) d end → RulePut s at c i j d end
         unfolding ruleTaken rulePast withRule withBody positivesFrom negativesFrom endFrom
         rule-put end rest =
             let x = written .code in
@@ -172,8 +172,8 @@ module _ (s : List ℕ) (at : ℕ) (c : List ℕ) (i j : ℕ) (asks : RuleAsks s
 
 -- a rule with no heads, of which only the rest is written
 pub headless :
-    (s : List ℕ) (bound : Span) (c : List ℕ) (i j : ℕ) {d : List ℕ} (end : Span) → RestPut s (kindNumber choice) bound c i j j d end
-    → (d ≡ withRule c i j (ruleOf s (kindNumber choice) [] bound)) × (end .value ≡ endFrom j (ruleOf s (kindNumber choice) [] bound))
+    (s : List ℕ) (bound : Span) (c : List ℕ) (i j : ℕ) {d : List ℕ} (end : Reached) → RestPut s (kindNumber choice) bound c i j j d end
+    → (d ≡ withRule c i j (ruleOf s (kindNumber choice) [] bound)) × (end .pair ≡ endFrom j (ruleOf s (kindNumber choice) [] bound))
 unfolding withRule withBody withPairs positivesFrom negativesFrom endFrom kindOf
 headless s bound c i j end rest =
     let z : j ≡ j + 0 = omega arith in

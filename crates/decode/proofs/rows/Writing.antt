@@ -21,6 +21,7 @@ use Rattle.sheet.specs.declared.SheetRule.{SheetRule}
 use Rattle.sheet.specs.declared.RuleRead.the-variants.{Got as GotRule}
 use Rattle.sheet.proofs.sheet.Rules.{rules-more, rules-next}
 use Rattle.sheet.proofs.sheet.Ran.{same-outline, sheet-ran}
+use Rattle.decode.specs.declared.pairs.Reached.{Reached}
 use Rattle.decode.specs.inner.Taken.{ruleTaken}
 use Rattle.decode.specs.inner.Rows.{firstPair, listsRule, RowsLeft, RuleAsks, RulePut}
 use Rattle.decode.specs.inner.Decode.{allRows, Decodable, WritesRules}
@@ -96,7 +97,7 @@ module _ {s : List ℕ} {o : Outline} {c₀ : List ℕ} (ready : Decodable s o c
       pub next-asks : RuleAsks s at c i j
       next-asks = record { kind = taken .kind; room = room-one (w .left) (ruleTaken s at) rules }
 
-      pub writing-next : {d : List ℕ} (end : Span) → RulePut s at c i j d end → Writing s o c₀ d (i + 1) (end .value) (end .next)
+      pub writing-next : {d : List ℕ} (end : Reached) → RulePut s at c i j d end → Writing s o c₀ d (i + 1) (end .pair) (end .next)
       writing-next end put =
           let z : end .next ≡ next .0 .next = put .place ∙ taken .next in
           record {
@@ -109,7 +110,7 @@ module _ {s : List ℕ} {o : Outline} {c₀ : List ℕ} (ready : Decodable s o c
             reads = ap (λ (p : ℕ). inTurn (ruleStep s (o .atoms)) after 0 (upTo done p)) z ∙ next .2;
           }
 
-    pub writing-done : {first : ℕ} → o .rules .value ≤ i → WritesRules s o c₀ c (span j first at)
+    pub writing-done : o .rules .value ≤ i → WritesRules s o c₀ c (record { pair = j; next = at })
     writing-done h =
         record {
           left =

@@ -6,13 +6,13 @@ use mathlib.Core.Path.{_≡_}
 use mathlib.Core.List.{List, [], _∷_, _++_}
 use lib.ListN.{length}
 use Rattle.rules.specs.Rule.{Rule, Sheet}
-use Rattle.numbers.specs.declared.Span.{Span}
 use Rattle.sheet.specs.Sheet.{sheetRead}
 use Rattle.sheet.specs.Meaning.{sheetMeant}
 use Rattle.sheet.specs.declared.Outline.{Outline}
 use Rattle.sheet.specs.declared.SheetRead.the-variants.{Accepted}
 use Rattle.table.specs.inner.Words.{pairWidth}
 use Rattle.table.specs.inner.Rows.{tableSheet, Laid}
+use Rattle.decode.specs.declared.pairs.Reached.{Reached}
 use Rattle.decode.specs.inner.Rows.{firstPair, listsRule, RowsLeft}
 
 -- how many words the table of a sheet of so many bytes needs
@@ -32,9 +32,9 @@ abbrev pub allRows : Sheet → List Rule
 allRows sh = sh .rules ++ (listsRule sh ∷ [])
 
 -- the rules are written, and the compute lists, at a place of the sheet, are left
-pub record WritesRules (s : List ℕ) (o : Outline) (c c′ : List ℕ) (end : Span) : Type 0 where
+pub record WritesRules (s : List ℕ) (o : Outline) (c c′ : List ℕ) (end : Reached) : Type 0 where
   pub left :
-      RowsLeft c (firstPair (o .rules .value)) (allRows (sheetMeant s o)) c′ (o .rules .value) (end .value)
+      RowsLeft c (firstPair (o .rules .value)) (allRows (sheetMeant s o)) c′ (o .rules .value) (end .pair)
       (listsRule (sheetMeant s o) ∷ [])
   pub place : end .next ≡ o .rules .next
 

@@ -13,6 +13,7 @@ use Rattle.table.specs.inner.Words.{rowWidth, pairWidth}
 use Rattle.decode.specs.inner.Words.{withWords}
 use Rattle.decode.specs.inner.Taken.{Body, bodyTaken, bodyLength, restTaken, needTaken, kindTaken, ruleTaken, rulePast}
 use Rattle.decode.specs.inner.Pairs.{withPairs}
+use Rattle.decode.specs.declared.pairs.Reached.{Reached}
 use Rattle.decode.specs.declared.rows.BodyEnds.{BodyEnds}
 
 -- where the positive literals of a rule begin, whose heads begin at pair j, where the negated ones begin, and where the rule ends
@@ -79,7 +80,7 @@ pub record RestAsks (s : List ℕ) (kind : ℕ) (bound : Span) (c : List ℕ) (i
   pub kindMost : kind ≤ numberMost
   pub boundMost : bound .value ≤ numberMost
 
-pub record RestPut (s : List ℕ) (kind : ℕ) (bound : Span) (c : List ℕ) (i heads j : ℕ) (c′ : List ℕ) (end : Span) : Type 0 where
+pub record RestPut (s : List ℕ) (kind : ℕ) (bound : Span) (c : List ℕ) (i heads j : ℕ) (c′ : List ℕ) (end : Reached) : Type 0 where
   pub code :
       c′
       ≡ withRow (withLiterals c j (restTaken s kind bound)) i kind
@@ -87,7 +88,7 @@ pub record RestPut (s : List ℕ) (kind : ℕ) (bound : Span) (c : List ℕ) (i 
       heads
       j
       (j + length (restTaken s kind bound .pos))
-  pub pair : end .value ≡ j + bodyLength (restTaken s kind bound)
+  pub pair : end .pair ≡ j + bodyLength (restTaken s kind bound)
   pub place : end .next ≡ restTaken s kind bound .next
 
 -- the rule at a place is one of the four kinds, and there is room for it
@@ -95,9 +96,9 @@ pub record RuleAsks (s : List ℕ) (at : ℕ) (c : List ℕ) (i j : ℕ) : Type 
   pub kind : kindNumber (ruleTaken s at .kind) ≡ kindTaken s at
   pub room : TableRoom c i j (ruleTaken s at ∷ [])
 
-pub record RulePut (s : List ℕ) (at : ℕ) (c : List ℕ) (i j : ℕ) (c′ : List ℕ) (end : Span) : Type 0 where
+pub record RulePut (s : List ℕ) (at : ℕ) (c : List ℕ) (i j : ℕ) (c′ : List ℕ) (end : Reached) : Type 0 where
   pub code : c′ ≡ withRule c i j (ruleTaken s at)
-  pub pair : end .value ≡ endFrom j (ruleTaken s at)
+  pub pair : end .pair ≡ endFrom j (ruleTaken s at)
   pub place : end .next ≡ rulePast s at
 
 -- the first pair, past the rows of so many rules, of the compute lists, and the row after them

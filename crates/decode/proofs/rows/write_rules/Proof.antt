@@ -9,10 +9,10 @@ use Rattle.decode.proofs.rows.write_rules.Statement.{statement}
 use Rattle.decode.proofs.rows.write_rules.Tie as tie
 
 abbrev Inv-loop : tie.InvT-loop
-Inv-loop s code₀ rules count at₀ j₀ i₀ code at j i = WritingOne s code₀ code i j at
+Inv-loop s code₀ count at₀ j₀ i₀ code at j i = WritingOne s code₀ code i j at
 
 abbrev μ-loop : tie.MeasureT-loop
-μ-loop s code₀ rules count at₀ j₀ i₀ code at j i = count - i
+μ-loop s code₀ count at₀ j₀ i₀ code at j i = count - i
 
 first-pair-requires : tie.Need-first-pair-requires Inv-loop μ-loop
 first-pair-requires c κs =
