@@ -14,7 +14,7 @@
  * Every call returns top * 2^40 + value:
  *
  *   top       value
- *   1 to 15   a place       refused, by the number of the refusal
+ *   1 to 16   a place       refused, by the number of the refusal
  *   32        n * 2^16 + r  accepted, with n atoms and r rules
  *   33        a count       closed, with so many undecided atoms
  *   34        0             contradiction
@@ -45,11 +45,14 @@
  *   14  the margin is asked on a contradiction        at 0
  *   15  a number is longer than four bytes (the fourth has its top bit set,
  *       whatever follows)
+ *   16  the bound of a constraint or weight rule is above the sum of the
+ *       rule's own weights (a constraint's are 1 each)
  *
- * Refusals 2 to 6 and 15 are at the first byte of the number. The sheet's own
- * are 1 to 9 and 15: every call can give them. Refusal 9 is tested first, then
- * the sheet in reading order, then 10, 11, 13, 12, 14, as far as the call has
- * such an input.
+ * Refusals 2 to 6, 15 and 16 are at the first byte of the number. The sheet's
+ * own are 1 to 9, 15 and 16: every call can give them. Refusal 9 is tested
+ * first, then the sheet in reading order, where 16 comes after anything else
+ * in its rule and before anything in the next; then 10, 11, 13, 12, 14, as far
+ * as the call has such an input.
  */
 #ifndef ARCHIVE_H
 #define ARCHIVE_H

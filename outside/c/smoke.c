@@ -49,5 +49,8 @@ int main(void) {
     const uint8_t five_groups[] = {1, 0x82, 0x80, 0x80, 0x80, 0};
     answer = desk_open(five_groups, sizeof five_groups, map, sizeof map);
     show("long", answer, code(15, 1), map, second);
+    const uint8_t dead_bound[] = {1, 1, 1, 2, 1, 1, 0, 0, 0, 0};
+    answer = desk_solve(dead_bound, sizeof dead_bound, map, sizeof map);
+    show("dead", answer, code(16, 5), map, second);
     return wrong;
 }

@@ -10,9 +10,9 @@ pub struct Refusal {
 }
 
 /// The numbers of the refusals that a sheet's own bytes can have.
-pub const SHEET_REFUSALS: [u8; 10] = [1, 2, 3, 4, 5, 6, 7, 8, 9, 15];
+pub const SHEET_REFUSALS: [u8; 11] = [1, 2, 3, 4, 5, 6, 7, 8, 9, 15, 16];
 /// The refusals are numbered from 1 to this.
-pub const HIGHEST_REFUSAL: u8 = 15;
+pub const HIGHEST_REFUSAL: u8 = 16;
 
 /// Every answer of every call.
 #[derive(Clone, Copy, Debug, PartialEq, Eq)]
@@ -129,7 +129,7 @@ mod tests {
         let highest = Answer::Refused(Refusal { number: HIGHEST_REFUSAL, place: 65_532 });
         assert_eq!(Answer::of_code(highest.code()), Some(highest));
         assert_eq!(Answer::of_code(0), None);
-        assert_eq!(Answer::of_code(16 << 40), None);
+        assert_eq!(Answer::of_code(17 << 40), None);
         assert_eq!(Answer::of_code(Answer::Model.code() + 1), None);
     }
 }

@@ -12,6 +12,7 @@ pub fn hold_all(desk: &Desk) -> Result<(), Disagreement> {
     for (sheet, number, place) in refused_sheets() {
         refused_by_every_call(desk, &sheet, Refusal { number, place })?;
     }
+    bounds(desk)?;
     refused_calls(desk)?;
     worked().iter().try_for_each(|case| case.hold(desk))?;
     tests_of_sets(desk)?;
@@ -94,18 +95,139 @@ pub fn refused_sheets() -> Vec<(Vec<u8>, u8, usize)> {
 }
 
 /// A sheet that is refused is refused by every call, before anything that is
-/// wrong with the call's other inputs.
+/// wrong with the call's other inputs, and whichever rule it asks for.
 pub fn refused_by_every_call(desk: &Desk, sheet: &[u8], refusal: Refusal) -> Result<(), Disagreement> {
     let table = Table { desk, sheet };
     let map = [9, 3, 0];
     let wanted = refused(refusal.number, refusal.place, &map);
     table.answers(Call::Check, &map, &wanted)?;
     table.answers(Call::Open, &map, &wanted)?;
-    table.answers(Call::Pin { atom: 0, side: 0 }, &map, &wanted)?;
     table.answers(Call::Solve, &map, &wanted)?;
     table.answers(Call::Test, &map, &wanted)?;
-    table.answers(Call::Margin { rule: 0 }, &map, &wanted)?;
-    table.answers(Call::Rule { rule: 0, part: 99, index: 99 }, &map, &wanted)
+    for (number, part) in [(0, 99), (1, 0)] {
+        table.answers(Call::Pin { atom: number, side: number }, &map, &wanted)?;
+        table.answers(Call::Margin { rule: number }, &map, &wanted)?;
+        table.answers(Call::Rule { rule: number, part, index: part }, &map, &wanted)?;
+    }
+    Ok(())
+}
+
+/// Request j: a bound above the sum of its rule's own weights is refused once
+/// the rule is read, and a bound equal to the sum is not.
+fn bounds(desk: &Desk) -> Result<(), Disagreement> {
+    for &(sheet, number, place) in DEAD_BOUNDS {
+        refused_by_every_call(desk, sheet, Refusal { number, place })?;
+    }
+    let mut long = vec![1, 1, 1, 2, 1, 1, 0, 0, 0, 0];
+    long.resize(MOST_BYTES, 0);
+    refused_by_every_call(desk, &long, Refusal { number: 16, place: 5 })?;
+    long.push(0);
+    refused_by_every_call(desk, &long, Refusal { number: 9, place: MOST_BYTES })?;
+    LIVING_BOUNDS.iter().try_for_each(|living| living.hold(desk))
+}
+
+/// Sheets with a bound above the sum, the refusal's number, and its place.
+const DEAD_BOUNDS: &[(&[u8], u8, usize)] = &[
+    // After the rule that 2 is in: 3 of {2, not 3}; 51 and 500 of {2 = 20,
+    // not 3 = 30}; 2,000,001 of {2 = 1,000,000, not 3 = 1,000,000}; 3 of
+    // {2, not 2}.
+    (&[1, 3, 2, 1, 2, 0, 0, 2, 1, 3, 1, 2, 1, 3, 0, 0], 16, 9),
+    (&[1, 3, 2, 1, 2, 0, 0, 5, 1, 51, 1, 2, 1, 3, 20, 30, 0, 0], 16, 9),
+    (&[1, 3, 2, 1, 2, 0, 0, 5, 1, 0xf4, 3, 1, 2, 1, 3, 20, 30, 0, 0], 16, 9),
+    (&[1, 3, 2, 1, 2, 0, 0, 5, 1, 0x81, 0x89, 0x7a, 1, 2, 1, 3, 0xc0, 0x84, 0x3d, 0xc0, 0x84, 0x3d, 0, 0], 16, 9),
+    (&[1, 3, 2, 1, 2, 0, 0, 2, 1, 3, 1, 2, 1, 2, 0, 0], 16, 9),
+    // 1 of nothing; 268,435,455 of nothing; 1 of {2 = 0}; 1 of nothing with
+    // the head 128.
+    (&[1, 1, 1, 2, 1, 1, 0, 0, 0, 0], 16, 5),
+    (&[1, 1, 1, 5, 1, 1, 0, 0, 0, 0], 16, 5),
+    (&[1, 1, 1, 2, 1, 0xff, 0xff, 0xff, 0x7f, 0, 0, 0, 0], 16, 5),
+    (&[1, 1, 1, 5, 1, 0xff, 0xff, 0xff, 0x7f, 0, 0, 0, 0], 16, 5),
+    (&[1, 2, 1, 5, 1, 1, 1, 2, 0, 0, 0, 0], 16, 5),
+    (&[1, 0x80, 1, 1, 2, 0x80, 1, 1, 0, 0, 0, 0], 16, 7),
+    // First comes what else is wrong in the rule. In the bound: padded; five
+    // bytes.
+    (&[1, 2, 1, 2, 1, 0x89, 0, 0, 0, 0, 0], 2, 5),
+    (&[1, 2, 1, 2, 1, 0xff, 0xff, 0xff, 0xff, 0, 0, 0, 0], 15, 5),
+    // In the lists: 3 of 2 atoms; the atoms 3 and 0; an atom twice.
+    (&[1, 2, 1, 2, 1, 9, 3, 1, 2, 3, 0, 0, 0], 4, 6),
+    (&[1, 2, 1, 2, 1, 9, 0, 3, 1, 2, 3, 0, 0], 4, 7),
+    (&[1, 2, 1, 2, 1, 9, 1, 3, 0, 0, 0], 6, 7),
+    (&[1, 2, 1, 2, 1, 9, 1, 2, 1, 0, 0, 0], 6, 9),
+    (&[1, 2, 1, 2, 1, 9, 2, 2, 2, 0, 0, 0], 7, 8),
+    // In the weights: 1,000,001, of a positive and of a negated atom; padded,
+    // likewise; five bytes.
+    (&[1, 1, 1, 5, 1, 0xff, 0xff, 0xff, 0x7f, 1, 1, 0, 0xc1, 0x84, 0x3d, 0, 0], 4, 12),
+    (&[1, 1, 1, 5, 1, 0xff, 0xff, 0xff, 0x7f, 0, 1, 1, 0xc1, 0x84, 0x3d, 0, 0], 4, 12),
+    (&[1, 1, 1, 5, 1, 9, 1, 1, 0, 0x83, 0, 0, 0], 2, 9),
+    (&[1, 1, 1, 5, 1, 9, 1, 1, 1, 1, 3, 0x83, 0, 0, 0], 2, 11),
+    (&[1, 1, 1, 5, 1, 9, 1, 1, 1, 1, 3, 0xff, 0xff, 0xff, 0xff, 0, 0], 15, 11),
+    // The sheet ends after the bound, in a list, before the weights, between
+    // them, and in one.
+    (&[1, 2, 1, 5, 1, 9], 1, 6),
+    (&[1, 2, 1, 2, 1, 9, 2, 1], 1, 8),
+    (&[1, 2, 1, 5, 1, 9, 1, 1, 1, 2], 1, 10),
+    (&[1, 2, 1, 5, 1, 9, 1, 1, 1, 2, 3], 1, 11),
+    (&[1, 2, 1, 5, 1, 9, 1, 1, 1, 2, 3, 0x80], 1, 12),
+    // Later comes what is wrong after the rule: the sheet ends; the next rule
+    // is of kind 4, or missing, or has the head 2 of 1, or a dead bound; a
+    // compute list of 2 of 1; one byte too many.
+    (&[1, 1, 1, 2, 1, 1, 0, 0], 16, 5),
+    (&[1, 1, 2, 2, 1, 1, 0, 0, 4], 16, 5),
+    (&[1, 1, 2, 5, 1, 1, 0, 0], 16, 5),
+    (&[1, 1, 2, 2, 1, 1, 0, 0, 1, 2, 0, 0, 0, 0], 16, 5),
+    (&[1, 1, 2, 2, 1, 1, 0, 0, 5, 1, 1, 0, 0, 0, 0], 16, 5),
+    (&[1, 1, 1, 2, 1, 1, 0, 0, 2], 16, 5),
+    (&[1, 1, 1, 5, 1, 1, 0, 0, 0, 0, 0], 16, 5),
+    // The rule before is of kind 4; has a bound of 0.
+    (&[1, 1, 2, 4, 2, 1, 1, 0, 0, 0, 0], 5, 3),
+    (&[1, 1, 2, 2, 1, 0, 0, 0, 5, 1, 1, 0, 0, 0, 0], 16, 10),
+];
+
+/// A sheet whose last rule has a bound equal to the sum.
+struct Living {
+    sheet: &'static [u8],
+    bound: u64,
+    /// The map that open leaves, which is the only stable model.
+    map: &'static [u8],
+    /// The rule's margin on that map.
+    margin: i64,
+}
+
+const LIVING_BOUNDS: [Living; 7] = [
+    // After the rule that 2 is in: 2 of {2, not 3}; 50 of {2 = 20, not 3 =
+    // 30}; 2,000,000 of {2 = 1,000,000, not 3 = 1,000,000}; 2 of {2, not 2},
+    // of which one is false on every decided map.
+    Living { sheet: &[1, 3, 2, 1, 2, 0, 0, 2, 1, 2, 1, 2, 1, 3, 0, 0], bound: 2, map: &[1, 1, 2], margin: 0 },
+    Living { sheet: &[1, 3, 2, 1, 2, 0, 0, 5, 1, 50, 1, 2, 1, 3, 20, 30, 0, 0], bound: 50, map: &[1, 1, 2], margin: 0 },
+    Living {
+        sheet: &[1, 3, 2, 1, 2, 0, 0, 5, 1, 0x80, 0x89, 0x7a, 1, 2, 1, 3, 0xc0, 0x84, 0x3d, 0xc0, 0x84, 0x3d, 0, 0],
+        bound: 2_000_000,
+        map: &[1, 1, 2],
+        margin: 0,
+    },
+    Living { sheet: &[1, 3, 2, 1, 2, 0, 0, 2, 1, 2, 1, 2, 1, 2, 0, 0], bound: 2, map: &[2, 1, 2], margin: -1 },
+    // 0 of nothing; 0 of {2 = 0}.
+    Living { sheet: &[1, 1, 1, 2, 1, 0, 0, 0, 0, 0], bound: 0, map: &[1], margin: 0 },
+    Living { sheet: &[1, 1, 1, 5, 1, 0, 0, 0, 0, 0], bound: 0, map: &[1], margin: 0 },
+    Living { sheet: &[1, 2, 1, 5, 1, 0, 1, 2, 0, 0, 0, 0], bound: 0, map: &[1, 2], margin: 0 },
+];
+
+impl Living {
+    /// Every call on the sheet.
+    fn hold(&self, desk: &Desk) -> Result<(), Disagreement> {
+        let table = Table { desk, sheet: self.sheet };
+        let (atoms, rules) = (self.map.len(), self.sheet[2].into());
+        let rule = self.sheet[2].into();
+        let old = vec![9; atoms];
+        let on_map = |answer: Answer| after(answer, self.map, &[]);
+        table.answers(Call::Check, &old, &after(Answer::Accepted { atoms, rules }, &old, &[]))?;
+        table.answers(Call::Open, &old, &on_map(closed(self.map)))?;
+        table.answers(Call::Pin { atom: 1, side: self.map[0].into() }, self.map, &on_map(closed(self.map)))?;
+        table.answers(Call::Solve, &old, &on_map(Answer::Model))?;
+        table.answers(Call::Test, self.map, &on_map(Answer::Yes))?;
+        table.answers(Call::Margin { rule }, self.map, &on_map(Answer::Margin(self.margin)))?;
+        table.answers(Call::Rule { rule, part: 1, index: 0 }, self.map, &on_map(Answer::Part(self.bound)))
+    }
 }
 
 /// Refusals 10 to 14, and their order: 10, 11, 13, 12, 14.
@@ -274,6 +396,23 @@ pub fn worked() -> Vec<Worked> {
             &[3, 3],
         ),
         computing(case("compute lists", 2, vec![choice(&[1, 2], &[], &[])], &[2, 1], &[2, 1]), &[2], &[1]),
+        // A bound equal to the sum needs every literal of the body.
+        pinned(
+            case("all of two", 3, vec![choice(&[2, 3], &[], &[]), constraint(1, 2, &[2], &[3])], &[0; 3], &[1, 1, 2]),
+            &[(1, 1)],
+            &[1, 1, 2],
+        ),
+        pinned(
+            case(
+                "the whole weight",
+                3,
+                vec![choice(&[2, 3], &[], &[]), weight(1, 50, &[(2, 20)], &[(3, 30)])],
+                &[0; 3],
+                &[1, 1, 2],
+            ),
+            &[(1, 2), (2, 1)],
+            &[2, 1, 1],
+        ),
     ]
 }
 

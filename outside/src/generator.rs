@@ -75,6 +75,7 @@ pub fn sheet_of_length(draw: &mut Draw, length: usize) -> Sheet {
             break;
         }
         let head = draw.between(1, MOST_ATOMS);
+        // The weights sum to more than any number that a sheet can say.
         let need = draw.between(0, MOST_NUMBER as usize) as u32;
         sheet.rules.push(Rule {
             kind: Kind::Weight,
@@ -108,14 +109,24 @@ pub fn about_one_byte(draw: &mut Draw) -> Sheet {
         list.iter().map(|&atom| (atom, draw.pick(&[0, 1, 126, 127, 128, 129, 16_384]))).collect::<Vec<_>>()
     };
     let head = |draw: &mut Draw| draw.between(125, atoms);
-    let bound = |draw: &mut Draw| draw.pick(&[0, 126, 127, 128, 129]);
+    // A constraint rule has at least as many literals as its bound says.
+    let counted = if draw.chance(1, 3) { (1..=atoms).collect() } else { list(draw) };
+    let counted = constraint(head(draw), 0, &counted, &list(draw));
+    let weighed = weight_rule(head(draw), 0, &weighed(draw), &weighed(draw));
     let rules = vec![
         choice(&list(draw), &list(draw), &[]),
         basic(head(draw), &list(draw), &list(draw)),
-        constraint(head(draw), bound(draw), &list(draw), &list(draw)),
-        weight_rule(head(draw), bound(draw), &weighed(draw), &weighed(draw)),
+        bounded_about_one_byte(draw, counted),
+        bounded_about_one_byte(draw, weighed),
     ];
     Sheet { atoms, rules, compute_in: Vec::new(), compute_out: list(draw) }
+}
+
+/// The rule with a bound that its weights reach: about 127, 0, or their sum.
+fn bounded_about_one_byte(draw: &mut Draw, rule: Rule) -> Rule {
+    let sum = rule.sum();
+    let reached = [0, sum, 126, 127, 128, 129].into_iter().filter(|&bound| bound <= sum).collect::<Vec<_>>();
+    Rule { need: draw.pick(&reached), ..rule }
 }
 
 /// How a sheet's numbers are drawn.
@@ -154,8 +165,8 @@ fn rule(draw: &mut Draw, atoms: usize, body: usize, style: Style) -> Rule {
     let positive = literals(draw, 0, atoms, body, kind, style);
     let least = usize::from(style.free && positive.is_empty());
     let negative = literals(draw, least, atoms, body, kind, style);
-    let need = need(draw, kind, &positive, &negative);
-    Rule { kind, heads, need, positive, negative }
+    let rule = Rule { kind, heads, need: 0, positive, negative };
+    Rule { need: need(draw, &rule), ..rule }
 }
 
 /// A rule whose head is above its body, which cannot close a loop.
@@ -190,18 +201,15 @@ fn weight(draw: &mut Draw, kind: Kind, style: Style) -> u32 {
     }
 }
 
-/// A need near what the body can reach, and now and then any number.
-fn need(draw: &mut Draw, kind: Kind, positive: &[Literal], negative: &[Literal]) -> u32 {
-    let whole = positive.iter().chain(negative).map(|literal| literal.weight).sum::<u32>();
-    match kind {
-        Kind::Basic | Kind::Choice => (positive.len() + negative.len()) as u32,
+/// A need that the body can reach; often its whole weight.
+fn need(draw: &mut Draw, rule: &Rule) -> u32 {
+    let most = rule.sum().min(MOST_NUMBER);
+    match rule.kind {
+        Kind::Basic | Kind::Choice => rule.length() as u32,
         Kind::Constraint | Kind::Weight => match draw.below(30) {
-            0 => draw.between(0, MOST_NUMBER as usize) as u32,
-            1 => MOST_NUMBER,
-            2 => 0,
-            3..=7 => whole.min(MOST_NUMBER),
-            8 => (whole + 1).min(MOST_NUMBER),
-            _ => draw.between(1, (whole as usize + 1).min(MOST_NUMBER as usize)) as u32,
+            0..=1 => 0,
+            2..=7 => most,
+            _ => draw.between(most.min(1) as usize, most as usize) as u32,
         },
     }
 }
@@ -425,6 +433,31 @@ mod tests {
             assert_eq!(sheet.bytes().len(), length);
             assert_eq!(read_sheet(&sheet.bytes()), Ok(sheet));
         }
+    }
+
+    #[test]
+    fn sheets_about_one_byte_are_accepted_and_some_bounds_are_about_127() {
+        let mut met = BTreeSet::new();
+        for seed in 0..200 {
+            let sheet = about_one_byte(&mut Draw::new("about", seed));
+            met.extend(sheet.rules[2..].iter().map(|rule| (rule.kind as u32, rule.need)));
+            assert_eq!(read_sheet(&sheet.bytes()), Ok(sheet), "seed {seed}");
+        }
+        for need in 126..=129 {
+            assert!(met.contains(&(2, need)) && met.contains(&(5, need)), "{need}");
+        }
+    }
+
+    #[test]
+    fn one_in_eight_damaged_sheets_is_accepted() {
+        let is_accepted = |seed: &u64| {
+            let mut draw = Draw::new("damaged", *seed);
+            let size = size(&mut draw);
+            let sheet = sheet(&mut draw, size);
+            read_sheet(&damaged(&mut draw, &sheet)).is_ok()
+        };
+        let accepted = (0..10_000).filter(is_accepted).count();
+        assert!(accepted > 1250, "{accepted} of 10,000");
     }
 
     #[test]

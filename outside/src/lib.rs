@@ -8,12 +8,15 @@
 //! - [`desk`]: the seven calls as a C caller sees them, as a record of
 //!   function pointers, and buffers with guard bytes around them.
 //! - [`draw`], [`generator`]: seeded sheets, maps and numbers.
+//! - [`bounds`]: sheets with a bound about the sum of its rule's weights, and
+//!   what check answers to them.
 //! - [`agreement`]: what two desks, or a desk and the definitions, must agree on.
 //! - [`translations`]: n-colouring and 3-SAT as sheets.
 //! - [`smodels`]: a sheet in the text form that clasp reads.
 
 pub mod agreement;
 pub mod answer;
+pub mod bounds;
 pub mod cases;
 pub mod definition;
 pub mod desk;

@@ -59,9 +59,31 @@ impl Rule {
         self.positive.len() + self.negative.len()
     }
 
+    /// The sum of the body's own weights. A bound above it is dead: the body
+    /// cannot reach it on any map.
+    pub fn sum(&self) -> u32 {
+        self.positive.iter().chain(&self.negative).map(|literal| literal.weight).sum()
+    }
+
     /// Whether the rule gives its heads only where they are chosen.
     pub fn is_choice(&self) -> bool {
         self.kind == Kind::Choice
+    }
+
+    /// The numbers of the rule in order.
+    pub fn numbers(&self) -> Vec<u32> {
+        let mut numbers = vec![self.kind as u32];
+        match self.kind {
+            Kind::Choice => list_numbers(self.heads.iter().copied(), &mut numbers),
+            Kind::Basic => numbers.push(number_of(self.heads[0])),
+            Kind::Constraint | Kind::Weight => numbers.extend([number_of(self.heads[0]), self.need]),
+        }
+        list_numbers(self.positive.iter().map(|literal| literal.atom), &mut numbers);
+        list_numbers(self.negative.iter().map(|literal| literal.atom), &mut numbers);
+        if self.kind == Kind::Weight {
+            numbers.extend(self.positive.iter().chain(&self.negative).map(|literal| literal.weight));
+        }
+        numbers
     }
 }
 
@@ -84,9 +106,7 @@ impl Sheet {
     /// The numbers of the sheet in order.
     pub fn numbers(&self) -> Vec<u32> {
         let mut numbers = vec![1, number_of(self.atoms), number_of(self.rules.len())];
-        for rule in &self.rules {
-            rule_numbers(rule, &mut numbers);
-        }
+        numbers.extend(self.rules.iter().flat_map(Rule::numbers));
         list_numbers(self.compute_in.iter().copied(), &mut numbers);
         list_numbers(self.compute_out.iter().copied(), &mut numbers);
         numbers
@@ -166,23 +186,6 @@ pub fn number_bytes(number: u32) -> Vec<u8> {
     }
     bytes.push(rest as u8);
     bytes
-}
-
-fn rule_numbers(rule: &Rule, numbers: &mut Vec<u32>) {
-    numbers.push(rule.kind as u32);
-    match rule.kind {
-        Kind::Choice => list_numbers(rule.heads.iter().copied(), numbers),
-        Kind::Basic => numbers.push(number_of(rule.heads[0])),
-        Kind::Constraint | Kind::Weight => {
-            numbers.push(number_of(rule.heads[0]));
-            numbers.push(rule.need);
-        }
-    }
-    list_numbers(rule.positive.iter().map(|literal| literal.atom), numbers);
-    list_numbers(rule.negative.iter().map(|literal| literal.atom), numbers);
-    if rule.kind == Kind::Weight {
-        numbers.extend(rule.positive.iter().chain(&rule.negative).map(|literal| literal.weight));
-    }
 }
 
 fn list_numbers(atoms: impl ExactSizeIterator<Item = usize>, numbers: &mut Vec<u32>) {

@@ -44,6 +44,7 @@ suite_tests! {
     damaged: "damaged",
     long_numbers: "long numbers",
     one_byte: "one byte",
+    bounds: "bounds",
     limits: "limits",
     subsets: "subsets",
     closed_maps: "closed maps",

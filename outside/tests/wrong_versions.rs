@@ -46,6 +46,18 @@ fn wrong_desks() -> Vec<Wrong> {
         wrong("places 15 at the fourth byte", &["long numbers", "damaged"], &|desk| {
             desk.check = for_c!(check check_fourth_byte);
         }),
+        wrong("places 16 at the kind", &["bounds", "damaged"], &|desk| desk.check = for_c!(check check_at_kind)),
+        wrong("refuses a bound equal to the sum", &["bounds", "well formed", "large", "limits"], &|desk| {
+            desk.check = for_c!(check check_equal_as_dead);
+        }),
+        wrong("sums the positive weights only", &["bounds", "well formed", "large", "limits"], &|desk| {
+            desk.check = for_c!(check check_positive_sum);
+        }),
+        wrong("gives 16 before a later fault of the rule", &["bounds", "damaged"], &|desk| {
+            desk.check = for_c!(check check_dead_first);
+        }),
+        wrong("looks at bounds last", &["bounds", "damaged"], &|desk| desk.check = for_c!(check check_dead_last)),
+        wrong("rule takes dead bounds", &["bounds", "damaged"], &|desk| desk.rule = for_c!(rule rule_of_dead)),
         wrong("reads past the end", &["damaged", "any bytes", "short strings"], &|desk| desk.check = check_beyond),
         wrong("writes on a refusal", &["short strings", "damaged", "limits"], &|desk| {
             desk.open = for_c!(open open_and_clear)
@@ -158,11 +170,26 @@ fn the_papers_cases_catch_the_wrong_versions_it_names() {
         "open guesses at once",
         "counts the decided atoms",
     ];
+    named.into_iter().for_each(caught_by_the_cases);
+}
+
+#[test]
+fn the_cases_of_bounds_catch_every_wrong_look_at_them() {
+    let named = [
+        "places 16 at the kind",
+        "refuses a bound equal to the sum",
+        "sums the positive weights only",
+        "gives 16 before a later fault of the rule",
+        "looks at bounds last",
+        "rule takes dead bounds",
+    ];
+    named.into_iter().for_each(caught_by_the_cases);
+}
+
+fn caught_by_the_cases(name: &str) {
     let wrong = wrong_desks();
-    for name in named {
-        let wrong = wrong.iter().find(|wrong| wrong.desk.name == name).expect("a wrong desk has this name");
-        assert!(cases::hold_all(&wrong.desk).is_err(), "{name}");
-    }
+    let wrong = wrong.iter().find(|wrong| wrong.desk.name == name).expect("a wrong desk has this name");
+    assert!(cases::hold_all(&wrong.desk).is_err(), "{name}");
 }
 
 fn refuse_all(_: &[u8]) -> u64 {
@@ -224,6 +251,69 @@ fn renumbered(code: u64, old: u8, new: u8) -> u64 {
 fn check_fourth_byte(s: &[u8]) -> u64 {
     let code = plain::desk_check(s);
     if code >> 40 == 15 { code + 3 } else { code }
+}
+
+/// The place of the first dead bound, where that is what refuses the sheet.
+fn dead_bound(code: u64) -> Option<usize> {
+    match Answer::of_code(code) {
+        Some(Answer::Refused(Refusal { number: 16, place })) => Some(place),
+        _ => None,
+    }
+}
+
+fn check_at_kind(s: &[u8]) -> u64 {
+    let code = plain::desk_check(s);
+    let Some(place) = dead_bound(code) else { return code };
+    let head = if s[place - 2] >= 128 { 2 } else { 1 };
+    refused(16, place - head - 1)
+}
+
+/// Checks an accepted sheet again with its bounded rules changed.
+fn check_changed(s: &[u8], change: impl Fn(&Rule) -> Rule) -> u64 {
+    let Ok(sheet) = read_sheet(s) else { return plain::desk_check(s) };
+    let is_bounded = |rule: &Rule| matches!(rule.kind, Kind::Constraint | Kind::Weight);
+    let changed = |rule: &Rule| if is_bounded(rule) { change(rule) } else { rule.clone() };
+    let rules = sheet.rules.iter().map(changed).collect();
+    plain::desk_check(&Sheet { rules, ..sheet }.bytes())
+}
+
+fn check_equal_as_dead(s: &[u8]) -> u64 {
+    check_changed(s, |rule| Rule { need: rule.need + u32::from(rule.need == rule.sum()), ..rule.clone() })
+}
+
+fn check_positive_sum(s: &[u8]) -> u64 {
+    check_changed(s, |rule| Rule { negative: vec![], ..rule.clone() })
+}
+
+/// Takes what is wrong, and all that follows, for zeros, if a bound is dead
+/// then.
+fn check_dead_first(s: &[u8]) -> u64 {
+    let code = plain::desk_check(s);
+    let Some(Answer::Refused(Refusal { place, .. })) = Answer::of_code(code) else { return code };
+    let filled = plain::desk_check(&[&s[..place], &[0; 1100]].concat());
+    if dead_bound(filled).is_some() { filled } else { code }
+}
+
+/// Gives 16 only where nothing else is wrong.
+fn check_dead_last(s: &[u8]) -> u64 {
+    let code = plain::desk_check(s);
+    let Some(place) = dead_bound(code) else { return code };
+    let other = check_dead_last(&with_zero_at(s, place));
+    if other >> 40 < 16 { other } else { code }
+}
+
+fn rule_of_dead(s: &[u8], rule: u64, part: u64, index: u64) -> u64 {
+    let code = plain::desk_rule(s, rule, part, index);
+    match dead_bound(code) {
+        Some(place) => rule_of_dead(&with_zero_at(s, place), rule, part, index),
+        None => code,
+    }
+}
+
+/// The sheet with 0 for the number at a place.
+fn with_zero_at(s: &[u8], place: usize) -> Vec<u8> {
+    let more = s[place..].iter().take_while(|&&byte| byte >= 128).count();
+    [&s[..place], &[0], &s[place + more + 1..]].concat()
 }
 
 /// Takes the eight bytes after the sheet for a part of it.

@@ -1,5 +1,5 @@
 -- The coding of the calls' answers for Rust and C: one number of 64 bits, a top of 24 bits times 2^40 and a value of 40. No
--- refusal of a call has a number above 15 or a place above 65,536 (gate: proofs/Places.antt), no accepted sheet more than 512 atoms or 2,048
+-- refusal of a call has a number above 16 or a place above 65,536 (gate: proofs/Places.antt), no accepted sheet more than 512 atoms or 2,048
 -- rules (sheet: proofs/Accepted.antt `well-formed`), and a margin lies from -268,435,455 to 1,024,000,000 (sheet: proofs/Limits.antt
 -- `margin-range`). So no remainder here loses anything of an answer that meets its promise: its number tells it (proofs/Exact.antt, a
 -- theorem for each call, `check-exact` to `rule-exact`).

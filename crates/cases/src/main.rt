@@ -147,6 +147,41 @@ fn show_sheets() {
     show_check(b"01 00 00 00 00:", b"\x01\x00\x00\x00\x00");
 }
 
+// Refusal 16: a bound above the sum of its rule's weights. The rules are 1 if so many of {2, not 3}, and 1 if {2=30, not 3=20} at least so
+// much; then bodies that are empty, a later fault in the same rule, and one in the next.
+fn show_bounds() {
+    show_check(
+        b"3 of 2:",
+        b"\x01\x03\x01\x02\x01\x03\x01\x02\x01\x03\x00\x00",
+    );
+    show_check(
+        b"2 of 2:",
+        b"\x01\x03\x01\x02\x01\x02\x01\x02\x01\x03\x00\x00",
+    );
+    show_check(
+        b"500 of 50:",
+        b"\x01\x03\x01\x05\x01\xf4\x03\x01\x02\x01\x03\x1e\x14\x00\x00",
+    );
+    show_check(
+        b"51 of 50:",
+        b"\x01\x03\x01\x05\x01\x33\x01\x02\x01\x03\x1e\x14\x00\x00",
+    );
+    show_check(
+        b"50 of 50:",
+        b"\x01\x03\x01\x05\x01\x32\x01\x02\x01\x03\x1e\x14\x00\x00",
+    );
+    show_check(b"0 of none:", b"\x01\x03\x01\x02\x01\x00\x00\x00\x00\x00");
+    show_check(b"1 of none:", b"\x01\x03\x01\x05\x01\x01\x00\x00\x00\x00");
+    show_check(
+        b"51, then no weight:",
+        b"\x01\x03\x01\x05\x01\x33\x01\x02\x01\x03\x1e",
+    );
+    show_check(
+        b"3 of 2, then kind 4:",
+        b"\x01\x03\x02\x02\x01\x03\x01\x02\x01\x03\x04",
+    );
+}
+
 // Sheets of at most two atoms.
 fn show_small() {
     show_case(b"no atoms\n", b"\x01\x00\x00\x00\x00");
@@ -181,4 +216,5 @@ fn main() {
     );
     show_numbers();
     show_sheets();
+    show_bounds();
 }

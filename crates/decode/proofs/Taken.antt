@@ -26,7 +26,7 @@ use Rattle.numbers.proofs.lists.Most.{run-keeps, listed}
 use Rattle.numbers.proofs.lists.Encoded.{atom-sound}
 use Rattle.sheet.specs.Body.{weightAt, weightsAt, weightsDue, needFor, weighedAt, bodyAt}
 use Rattle.sheet.specs.Rule.{bounded, headThen, basicAt, boundedAt, choiceAt, ruleAt}
-use Rattle.sheet.specs.Meaning.{paired, pairedIn, ruleBy, ruleMeant}
+use Rattle.sheet.specs.RuleMeaning.{paired, pairedIn, ruleBy, ruleMeant}
 use Rattle.sheet.specs.declared.SheetKind.{SheetKind}
 use Rattle.sheet.specs.declared.SheetKind.the-variants.{Basic, Constraint, Choice, Weight}
 use Rattle.sheet.specs.declared.Literals.{Literals}
@@ -34,6 +34,7 @@ use Rattle.sheet.specs.declared.SheetRule.{SheetRule}
 use Rattle.sheet.specs.declared.RuleRead.{RuleRead}
 use Rattle.sheet.specs.declared.RuleRead.the-variants.{Got as GotRule, Refused as RefusedRule}
 use Rattle.sheet.proofs.body.Ran.{not-rule, same-rule, body-ran}
+use Rattle.sheet.proofs.body.Dead.{from-dead}
 use Rattle.sheet.proofs.rule.Ran.{Cases, basicCase, boundedCase, choiceCase, cases, boundedKind}
 use Rattle.table.specs.inner.Rows.{kindOf}
 use Rattle.decode.specs.inner.Taken.{numbersPast, listTaken, listPast, literalsTaken, literalsPast, Body, bodyOf, bodyTaken, headsTaken, headsPast, hasBound, boundTaken, needTaken, restTaken, ruleOf, kindTaken, ruleBound, ruleTaken, rulePast}
@@ -230,7 +231,8 @@ module _ (s : List ℕ) where
     bounded-is weighs e =
         let h = head-taken n at _ r e in
         let g = from-read RefusedRule _ (numberAt s (takenAt s at .next)) not-rule (h .2) in
-        by weighs (h .0) (h .1) (g .0) (taken-read s (takenAt s at .next) (g .0) (g .1)) (g .2)
+        by weighs (h .0) (h .1) (g .0) (taken-read s (takenAt s at .next) (g .0) (g .1))
+        (from-dead s (takenAt s at .next) _ r (g .2) .0)
       where
         by :
             (weighs : Bool) (head : Atom) → takenAt s at .value ≡ head .number → (bound : Span) → takenAt s (takenAt s at .next) ≡ bound

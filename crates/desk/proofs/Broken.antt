@@ -32,10 +32,11 @@ use Rattle.numbers.specs.Answer.{refusal, readThen, atomThen}
 use Rattle.numbers.specs.Number.{groupsFrom, numberAt, takenFrom, takenAt, withinAt}
 use Rattle.numbers.specs.Lists.{atomAt, inTurn, listAt, numbersFrom}
 use Rattle.numbers.specs.declared.Refusal.{Refusal}
-use Rattle.sheet.specs.Body.{weightAt, weightsAt, weighedAt, bodyAt}
+use Rattle.sheet.specs.Body.{weightAt, weightsAt, weighedAt, bodyAt, unlessAbove, unlessDead}
 use Rattle.sheet.specs.Rule.{headThen, basicAt, boundedAt, choiceAt, ruleAt, ruleThen, ruleStep, rulesAt}
 use Rattle.sheet.specs.Sheet.{editionAt, tailAt, restAt, wholeAt, sheetRead, sheetThen}
-use Rattle.sheet.specs.Meaning.{paired, ruleMeant, rulesFrom, sheetMeant, sheetOf, accepted}
+use Rattle.sheet.specs.RuleMeaning.{paired, ruleMeant}
+use Rattle.sheet.specs.Meaning.{rulesFrom, sheetMeant, sheetOf, accepted}
 use Rattle.sheet.specs.declared.Outline.{Outline}
 use Rattle.sheet.specs.declared.SheetRead.the-variants.{Accepted}
 use Rattle.sheet.proofs.sheet.Ran.{sheet-ran}
@@ -66,7 +67,7 @@ written =
     0x01 ∷ 0x03 ∷ 0x03 ∷ 0x01 ∷ 0x01 ∷ 0x00 ∷ 0x00 ∷ 0x03 ∷ 0x01 ∷ 0x02 ∷ 0x00 ∷ 0x00 ∷ 0x01 ∷ 0x03 ∷ 0x01 ∷ 0x02 ∷ 0x00 ∷ 0x00 ∷ 0x00 ∷ []
 
 reads : sheetOf written ≡ accepted small
-unfolding sheetOf sheetMeant rulesFrom ruleMeant paired sheetThen sheetRead wholeAt editionAt restAt tailAt rulesAt ruleStep ruleThen ruleAt choiceAt boundedAt basicAt headThen bodyAt weighedAt weightsAt weightAt listAt inTurn atomAt withinAt numberAt groupsFrom numbersFrom takenFrom takenAt pick readThen atomThen checkedAtom atomsMost rulesMost bytesMost weightMost
+unfolding sheetOf sheetMeant rulesFrom ruleMeant paired sheetThen sheetRead wholeAt editionAt restAt tailAt rulesAt ruleStep ruleThen ruleAt choiceAt boundedAt basicAt headThen unlessDead unlessAbove bodyAt weighedAt weightsAt weightAt listAt inTurn atomAt withinAt numberAt groupsFrom numbersFrom takenFrom takenAt pick readThen atomThen checkedAtom atomsMost rulesMost bytesMost weightMost
 reads = refl
 
 abbrev blank : List ℕ

@@ -22,7 +22,7 @@ fn stop(number: usize, place: usize) -> Gate
     Gate::Stop(Refusal { number, place })
 }
 
-// The sheet's own refusals, 1 to 9 and 15.
+// The sheet's own refusals, 1 to 9, 15 and 16.
 pub fn sheet_gate(s: &[u8], task: Task) -> Gate
     ensures { λ r. ⌜ r ≡ sheetGate (now (s .entry)) task ⌝ }
 {

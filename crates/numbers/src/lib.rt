@@ -25,7 +25,7 @@ pub struct Refusal {
 }
 
 // What was read: its value, its first place, and the place after it. Of a list the value is its count, and `first` is the place of
-// its first atom.
+// its first atom; of numbers that are added up the value is their sum.
 pub struct Span {
     pub value: usize,
     pub first: usize,
@@ -37,7 +37,7 @@ pub enum Read {
     Refused(Refusal),
 }
 
-fn spanned(value: usize, first: usize, next: usize) -> Span
+pub fn spanned(value: usize, first: usize, next: usize) -> Span
     ensures { λ r. ⌜ r ≡ span value first next ⌝ }
 {
     Span { value, first, next }

@@ -16,7 +16,8 @@ use Rattle.numbers.specs.declared.Read.the-variants.{Got}
 use Rattle.numbers.proofs.lists.Most.{run-keeps}
 use Rattle.sheet.specs.Rule.{ruleAt, ruleThen, ruleStep, rulesAt}
 use Rattle.sheet.specs.Sheet.{sheetRead, sheetThen}
-use Rattle.sheet.specs.Meaning.{Reading as Meaning, accepted, refused, ruleMeant, rulesFrom, sheetMeant, sheetOf}
+use Rattle.sheet.specs.RuleMeaning.{ruleMeant}
+use Rattle.sheet.specs.Meaning.{Reading as Meaning, accepted, refused, rulesFrom, sheetMeant, sheetOf}
 use Rattle.sheet.specs.declared.SheetRule.{SheetRule}
 use Rattle.sheet.specs.declared.RuleRead.{RuleRead}
 use Rattle.sheet.specs.declared.RuleRead.the-variants.{Got as GotRule}

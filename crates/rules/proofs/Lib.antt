@@ -3,6 +3,7 @@ pub mod Inside
 pub mod Tests
 pub mod Sum
 pub mod Value
+pub mod Dead
 pub mod Maps
 pub mod Forced
 pub mod Total

@@ -19,4 +19,4 @@ numberMost = 268435455
 
 -- the refusals are numbered from 1 to this
 abbrev pub highestRefusal : ℕ
-highestRefusal = 15
+highestRefusal = 16

@@ -3,7 +3,7 @@
 -- S is stable exactly when it equals the smallest C that contains everything the rules give from it."
 use Prim.Native.Nat.{ℕ, _+_, _≤_, _<_}
 use mathlib.Core.Path.{_≡_}
-use mathlib.Core.Bool.{Bool, not}
+use mathlib.Core.Bool.{Bool, true, not}
 use mathlib.Core.List.{List, List·Memᴰ}
 use lib.Dec.{T}
 use Rattle.rules.specs.Sum.{tally, has}
@@ -23,6 +23,20 @@ gain p ls = tally (λ l. p (l .atom)) (λ l. l .weight) ls
 -- the weight of a body of which the positive atoms that pass p and the negated atoms that pass q count
 unfoldable pub value : Rule → Set → Set → ℕ
 value r p q = gain p (r .pos) + gain q (r .neg)
+
+abbrev pub everything : Set
+everything a = true
+
+-- "the sum of its own weights": every literal counts
+abbrev pub weightSum : Rule → ℕ
+weightSum r = value r everything everything
+
+-- a need above that sum, and one that is not
+abbrev pub Dead : Rule → Type 0
+Dead r = weightSum r < r .need
+
+abbrev pub Living : Rule → Type 0
+Living r = r .need ≤ weightSum r
 
 abbrev pub Holds : Rule → Set → Set → Type 0
 Holds r S C = r .need ≤ value r C (outside S)

@@ -1,16 +1,17 @@
 -- An accepted sheet has one meaning and one form. All of it follows from what reading it has read, part by part.
 use Prim.Native.Nat.{ℕ, _≤_}
 use mathlib.Core.Path.{_≡_, refl, sym, ap, subst, _∙_}
-use mathlib.Core.List.{List}
+use mathlib.Core.List.{List, List·Memᴰ}
 use native.Mathlib.Omega.{arith}
 use lib.ListN.{length}
 use Rattle.rules.specs.Limits.{bytesMost}
-use Rattle.rules.specs.Rule.{Sheet}
+use Rattle.rules.specs.Rule.{Rule, Sheet}
+use Rattle.rules.specs.Stable.{Dead}
 use Rattle.rules.proofs.Fits.{Numbered}
 use Rattle.numbers.specs.shown.Encode.{IsBytes}
 use Rattle.sheet.specs.Sheet.{sheetRead, sheetThen}
 use Rattle.sheet.specs.Meaning.{accepted, refused, sheetMeant, sheetOf}
-use Rattle.sheet.specs.shown.Encode.{encode, WellFormed}
+use Rattle.sheet.specs.shown.Encode.{encode, AllLiving, WellFormed}
 use Rattle.sheet.specs.declared.Outline.{Outline}
 use Rattle.sheet.specs.declared.SheetRead.{SheetRead}
 use Rattle.sheet.specs.declared.SheetRead.the-variants.{Accepted, Refused as RefusedSheet}
@@ -40,6 +41,14 @@ module _ (s : List ℕ) (sh : Sheet) (e : sheetOf s ≡ accepted sh) where
   -- every atom that it names is one of its n
   pub numbered : Numbered sh
   numbered = formed-numbered sh well-formed
+
+  -- every bound of it is at most the sum of its rule's weights
+  pub bounds-met : AllLiving (sh .rules)
+  bounds-met = well-formed .living
+
+  -- so a sheet with a dead bound is not accepted
+  pub dead-bound-not-accepted : (r : Rule) → List·Memᴰ r (sh .rules) → Dead r → ⊥
+  dead-bound-not-accepted r among dead = omega (arith, bounds-met r among)
 
   pub short : length s ≤ bytesMost
   short = ran .1 .short

@@ -10,13 +10,15 @@ use lib.Dec.{ltb, eqb}
 use borrow.Author.Tests.{ltb-false}
 use Rattle.rules.specs.Limits.{atomsMost, rulesMost, bytesMost, weightMost}
 use Rattle.rules.specs.Number.{checkedAtom}
+use Rattle.rules.specs.Stable.{weightSum}
 use Rattle.rules.specs.declared.Atom.{Atom}
 use Rattle.numbers.specs.Answer.{span}
 use Rattle.numbers.specs.declared.Refusal.{Refusal}
 use Rattle.numbers.specs.declared.Span.{Span}
 use Rattle.numbers.specs.declared.Read.the-variants.{Got, Refused}
 use Rattle.numbers.proofs.Places.{Placed, placed, Tame, gets, refuses, pick-so, read-so, atom-so, number-tame, within-tame, run-tame, list-tame}
-use Rattle.sheet.specs.Body.{weightAt, weightsAt, weightsDue, needFor, weighedAt, bodyAt}
+use Rattle.sheet.specs.Body.{weightAt, weightsAt, weightsDue, needFor, weighedAt, bodyAt, unlessAbove, unlessDead}
+use Rattle.sheet.specs.RuleMeaning.{ruleMeant}
 use Rattle.sheet.specs.Rule.{headThen, basicAt, bounded, boundedAt, choiceAt, ruleAt, ruleThen, ruleStep, rulesAt}
 use Rattle.sheet.specs.Sheet.{editionAt, tailAt, restAt, wholeAt, sheetRead, sheetThen}
 use Rattle.sheet.specs.Meaning.{accepted, refused, sheetMeant, sheetOf}
@@ -28,6 +30,7 @@ use Rattle.sheet.specs.declared.RuleRead.the-variants.{Got as GotRule, R
 use Rattle.sheet.specs.declared.Outline.{Outline}
 use Rattle.sheet.specs.declared.SheetRead.{SheetRead}
 use Rattle.sheet.specs.declared.SheetRead.the-variants.{Accepted, Refused as RefusedSheet}
+use Rattle.sheet.proofs.body.Ran.{not-rule, same-rule}
 
 -- a rule that ends within the bytes, or a refusal within them
 data TameRule (s : List ℕ) : RuleRead → Type 0 where
@@ -60,6 +63,12 @@ module _ (s : List ℕ) where
       (λ positive k. read-so (TameRule s) RefusedRule _ (list-tame s 0 n (positive .next) k) refusesRule
       (λ negated l. weighed-tame kind (needFor kind (positive .value + negated .value)) positive negated l))
 
+  dead-tame : (bound : ℕ) → bound ≤ length s → (a : RuleRead) → TameRule s a → TameRule s (unlessDead s bound a)
+  unfolding unlessDead unlessAbove
+  dead-tame bound h _ (getsRule r l) =
+      pick-so (TameRule s) (ltb (weightSum (ruleMeant s r)) (r .need)) _ _ (λ b. refusesRule _ (placed 16 bound (omega arith) h)) (λ b. getsRule r l)
+  dead-tame bound h _ (refusesRule why w) = refusesRule why w
+
   module _ (n at : ℕ) (h : at ≤ length s) where
     head-tame :
         (next : Atom → ℕ → RuleRead) → ((head : Atom) (place : ℕ) → place ≤ length s → TameRule s (next head place))
@@ -79,7 +88,7 @@ module _ (s : List ℕ) where
     bounded-tame weighs =
         head-tame _
         (λ head place l. read-so (TameRule s) RefusedRule _ (number-tame s place l) refusesRule
-        (λ bound k. body-tame n (bounded weighs head (bound .value)) (bound .next) k))
+        (λ bound k. dead-tame place l _ (body-tame n (bounded weighs head (bound .value)) (bound .next) k)))
 
     choice-tame : TameRule s (choiceAt s n at)
     unfolding choiceAt
@@ -96,6 +105,14 @@ module _ (s : List ℕ) where
       (λ c. pick-so (TameRule s) (eqb (kind .value) 3) _ _ (λ d. choice-tame n (kind .next) k)
       (λ d. pick-so (TameRule s) (eqb (kind .value) 5) _ _ (λ f. bounded-tame n (kind .next) k true)
       (λ f. refusesRule _ (placed 5 at (omega arith) h))))))
+
+  -- a rule that was read ends within the bytes
+  pub rule-within : (n at : ℕ) → at ≤ length s → (r : SheetRule) → ruleAt s n at ≡ GotRule r → r .next ≤ length s
+  rule-within n at h r e = by (ruleAt s n at) (rule-tame n at h) e
+    where
+      by : (a : RuleRead) → TameRule s a → a ≡ GotRule r → r .next ≤ length s
+      by _ (getsRule t l) z = subst (λ (u : SheetRule). u .next ≤ length s) (same-rule z) l
+      by _ (refusesRule why w) z = absurd (not-rule why z)
 
   step-tame : (n before at : ℕ) → at ≤ length s → Tame s (ruleStep s n before at)
   unfolding ruleStep ruleThen

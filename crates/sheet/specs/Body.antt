@@ -1,15 +1,22 @@
 -- "A body is a list of positive atoms and then a list of negated atoms." A weight rule has, after its body, "one weight (0 to
 -- 1,000,000) for each positive and then for each negative literal, in body order".
+-- Refusal 16: "a constraint or weight rule whose need is above the sum of its own weights", "at the bound's first byte, once the rule has
+-- been read in full. Other refusals within that rule come earlier."
 use Prim.Native.Nat.{ℕ, _+_}
 use mathlib.Core.List.{List}
+use lib.Dec.{ltb}
 use Rattle.rules.specs.Limits.{weightMost}
-use Rattle.numbers.specs.Answer.{span, readThen}
+use Rattle.rules.specs.Sum.{pick}
+use Rattle.rules.specs.Stable.{weightSum}
+use Rattle.numbers.specs.Answer.{refusal, span, readThen}
 use Rattle.numbers.specs.Number.{withinAt}
 use Rattle.numbers.specs.Lists.{inTurn, listAt}
 use Rattle.numbers.specs.declared.Span.{Span}
 use Rattle.numbers.specs.declared.Read.{Read}
+use Rattle.sheet.specs.RuleMeaning.{ruleMeant}
 use Rattle.sheet.specs.declared.SheetKind.{SheetKind}
 use Rattle.sheet.specs.declared.SheetKind.the-variants.{Basic, Constraint, Choice, Weight}
+use Rattle.sheet.specs.declared.SheetRule.{SheetRule}
 use Rattle.sheet.specs.declared.RuleRead.{RuleRead}
 use Rattle.sheet.specs.declared.RuleRead.the-variants.{Got as GotRule, Refused as RefusedRule}
 
@@ -53,3 +60,12 @@ bodyAt s n kind at =
     readThen RefusedRule (listAt s 0 n at)
     (λ positive. readThen RefusedRule (listAt s 0 n (positive .next))
     (λ negated. weighedAt s kind (needFor kind (positive .value + negated .value)) positive negated))
+
+-- a rule, unless its need is above a sum: then 16, at the place of its bound
+unfoldable pub unlessAbove : ℕ → ℕ → SheetRule → RuleRead
+unlessAbove sum bound rule = pick (ltb sum (rule .need)) (RefusedRule (refusal 16 bound)) (GotRule rule)
+
+-- a rule that was read in full, unless its need is above the sum of its own weights; a refusal is handed up
+unfoldable pub unlessDead : List ℕ → ℕ → RuleRead → RuleRead
+unlessDead s bound (GotRule rule) = unlessAbove (weightSum (ruleMeant s rule)) bound rule
+unlessDead s bound (RefusedRule why) = RefusedRule why

@@ -1,3 +1,4 @@
+pub mod RuleMeaning
 pub mod Body
 pub mod Rule
 pub mod Sheet

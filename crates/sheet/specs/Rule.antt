@@ -19,7 +19,7 @@ use Rattle.numbers.specs.Lists.{inTurn, listAt}
 use Rattle.numbers.specs.declared.Refusal.{Refusal}
 use Rattle.numbers.specs.declared.Read.{Read}
 use Rattle.numbers.specs.declared.Read.the-variants.{Got, Refused}
-use Rattle.sheet.specs.Body.{bodyAt}
+use Rattle.sheet.specs.Body.{bodyAt, unlessDead}
 use Rattle.sheet.specs.declared.SheetKind.{SheetKind}
 use Rattle.sheet.specs.declared.SheetKind.the-variants.{Basic, Constraint, Choice, Weight}
 use Rattle.sheet.specs.declared.SheetRule.{SheetRule}
@@ -44,7 +44,7 @@ unfoldable pub boundedAt : List ℕ → ℕ → Bool → ℕ → RuleRead
 boundedAt s n weighs at =
     headThen s n at
     (λ head next. readThen RefusedRule (numberAt s next)
-    (λ bound. bodyAt s n (bounded weighs head (bound .value)) (bound .next)))
+    (λ bound. unlessDead s next (bodyAt s n (bounded weighs head (bound .value)) (bound .next))))
 
 unfoldable pub choiceAt : List ℕ → ℕ → ℕ → RuleRead
 choiceAt s n at = readThen RefusedRule (listAt s 1 n at) (λ heads. bodyAt s n (Choice heads) (heads .next))

@@ -1,19 +1,23 @@
 // The bodies of rules: two lists of atoms, and the weights of their literals where the kind has weights.
+ghost use Prim.Native.Nat.{_+_, _*_, _≤_};
 ghost use mathlib.Core.Path.{_≡_};
-ghost use Rattle.numbers.specs.inner.Short.{Ahead};
+ghost use Rattle.rules.specs.Limits.{numberMost};
 ghost use Rattle.sheet.specs.inner.Unweighed.{isPlain, unweighed};
-ghost use Rattle.sheet.specs.Body.{weightAt, weightsAt, needFor, weighedAt, bodyAt};
+ghost use Rattle.sheet.specs.inner.Sums.{sumAt, AddedAhead, weighed};
+ghost use Rattle.sheet.specs.Body.{needFor, weighedAt, bodyAt, unlessAbove, unlessDead};
 use super::Literals;
 use super::RuleRead;
 use super::SheetKind;
 use super::SheetRule;
 use numbers::Read;
+use numbers::Refusal;
 use numbers::SHORT_MOST;
 use numbers::Span;
 use numbers::lesser;
 use numbers::past_bytes;
 use numbers::read_list;
 use numbers::read_within;
+use numbers::spanned;
 use numbers::wide;
 
 // The largest weight of a literal.
@@ -31,39 +35,44 @@ fn need(kind: SheetKind, length: usize) -> usize
     }
 }
 
-// The first of so many weights from a place on, as far as each takes one byte: the place after them.
-fn short_weights(s: &[u8], count: usize, first: usize) -> usize
-    ensures { λ r. ⌜ Ahead (weightAt (now (s .entry))) count first 0 r ⌝ }
+// The first of so many weights from a place on, as far as each takes one byte: the sum of them and of those before, and the place after
+// them.
+fn short_weights(s: &[u8], before: usize, count: usize, first: usize) -> Span
+    requires { ⌜ (before ≤ numberMost * numberMost) × (count ≤ numberMost) ⌝ }
+    ensures { λ r. ⌜ AddedAhead (now (s .entry)) before count first (r .value) (r .next) ⌝ }
 {
     let end = past_bytes(s, count, first);
     let most = lesser(WEIGHT_MOST, SHORT_MOST);
+    let mut sum = before;
     let mut at = first;
     while at < end {
-        if most < wide(s[at]) {
-            return at;
+        let weight = wide(s[at]);
+        if most < weight {
+            return spanned(sum, first, at);
         }
+        sum += weight;
         at += 1;
     }
-    at
+    spanned(sum, first, at)
 }
 
-// So many weights from a place on.
-fn read_weights(s: &[u8], count: usize, first: usize) -> Read
-    ensures { λ r. ⌜ r ≡ weightsAt (now (s .entry)) count first ⌝ }
+// So many weights from a place on, with the sum of them and of those before.
+fn read_weights(s: &[u8], before: usize, count: usize, first: usize) -> Read
+    requires { ⌜ (before ≤ numberMost * numberMost) × (count ≤ numberMost) ⌝ }
+    ensures { λ r. ⌜ r ≡ sumAt (now (s .entry)) before count first ⌝ }
 {
-    let mut at = short_weights(s, count, first);
+    let short = short_weights(s, before, count, first);
+    let mut sum = short.value;
+    let mut at = short.next;
     for _ in at - first..count {
         let got = read_within(s, 0, WEIGHT_MOST, at);
         let Read::Got(weight) = got else {
             return got;
         };
+        sum += weight.value;
         at = weight.next;
     }
-    Read::Got(Span {
-        value: count,
-        first,
-        next: at,
-    })
+    Read::Got(spanned(sum, first, at))
 }
 
 // Is this a kind without weights?
@@ -92,46 +101,72 @@ fn unweighed(atoms: Span, at: usize) -> Literals
     }
 }
 
-// The rule whose lists were read, with its weights, where its kind has weights.
-fn read_weighed(s: &[u8], kind: SheetKind, need: usize, positive: Span, negated: Span) -> RuleRead
-    ensures { λ r. ⌜ r ≡ weighedAt (now (s .entry)) kind need positive negated ⌝ }
+// The literals of a list, each with its weight.
+fn weighed(atoms: Span, weights: Span) -> Literals
+    ensures { λ r. ⌜ r ≡ weighed atoms weights ⌝ }
 {
+    Literals {
+        atoms,
+        weights: Span {
+            value: atoms.value,
+            first: weights.first,
+            next: weights.next,
+        },
+    }
+}
+
+// A rule, unless its need is above a sum: then it is refused at the place of its bound.
+fn unless_above(sum: usize, bound: usize, rule: SheetRule) -> RuleRead
+    ensures { λ r. ⌜ r ≡ unlessAbove sum bound rule ⌝ }
+{
+    if sum < rule.need {
+        return RuleRead::Refused(Refusal {
+            number: 16,
+            place: bound,
+        });
+    }
+    RuleRead::Got(rule)
+}
+
+// The rule whose lists were read, with its weights, where its kind has weights, unless its need is above the sum of its weights.
+fn read_weighed(s: &[u8], kind: SheetKind, bound: usize, positive: Span, negated: Span) -> RuleRead
+    requires { ⌜ (positive .value ≤ numberMost) × (negated .value ≤ numberMost) ⌝ }
+    ensures { λ r. ⌜ r ≡ unlessDead (now (s .entry)) bound (weighedAt (now (s .entry)) kind (needFor kind (positive .value + negated .value)) positive negated) ⌝ }
+{
+    let length = positive.value + negated.value;
+    let due = need(kind, length);
     if is_plain(kind) {
         let at = negated.next;
-        return RuleRead::Got(SheetRule {
+        let rule = SheetRule {
             kind,
-            need,
+            need: due,
             positive: unweighed(positive, at),
             negated: unweighed(negated, at),
             next: at,
-        });
+        };
+        return unless_above(length, bound, rule);
     }
-    let above = match read_weights(s, positive.value, negated.next) {
+    let above = match read_weights(s, 0, positive.value, negated.next) {
         Read::Got(weights) => weights,
         Read::Refused(why) => return RuleRead::Refused(why),
     };
-    let below = match read_weights(s, negated.value, above.next) {
+    let below = match read_weights(s, above.value, negated.value, above.next) {
         Read::Got(weights) => weights,
         Read::Refused(why) => return RuleRead::Refused(why),
     };
-    RuleRead::Got(SheetRule {
+    let rule = SheetRule {
         kind,
-        need,
-        positive: Literals {
-            atoms: positive,
-            weights: above,
-        },
-        negated: Literals {
-            atoms: negated,
-            weights: below,
-        },
+        need: due,
+        positive: weighed(positive, above),
+        negated: weighed(negated, below),
         next: below.next,
-    })
+    };
+    unless_above(below.value, bound, rule)
 }
 
-// The rule of this kind whose body is at a place.
-pub(crate) fn read_body(s: &[u8], n: usize, kind: SheetKind, at: usize) -> RuleRead
-    ensures { λ r. ⌜ r ≡ bodyAt (now (s .entry)) n kind at ⌝ }
+// The rule of this kind whose body is at a place, and its bound, if it has one, at another.
+pub(crate) fn read_body(s: &[u8], n: usize, kind: SheetKind, bound: usize, at: usize) -> RuleRead
+    ensures { λ r. ⌜ r ≡ unlessDead (now (s .entry)) bound (bodyAt (now (s .entry)) n kind at) ⌝ }
 {
     let positive = match read_list(s, 0, n, at) {
         Read::Got(list) => list,
@@ -141,6 +176,5 @@ pub(crate) fn read_body(s: &[u8], n: usize, kind: SheetKind, at: usize) -> RuleR
         Read::Got(list) => list,
         Read::Refused(why) => return RuleRead::Refused(why),
     };
-    let due = need(kind, positive.value + negated.value);
-    read_weighed(s, kind, due, positive, negated)
+    read_weighed(s, kind, bound, positive, negated)
 }

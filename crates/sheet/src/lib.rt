@@ -24,9 +24,9 @@ pub struct Literals {
     pub weights: Span,
 }
 
-// The head part of a rule: its kind with it, and the place of the body.
+// The head part of a rule: its kind with it, the place after the heads, where the bound is if it has one, and the place of the body.
 pub(crate) enum HeadRead {
-    Got(SheetKind, usize),
+    Got(SheetKind, usize, usize),
     Refused(Refusal),
 }
 

@@ -29,7 +29,7 @@ fn read_choice(s: &[u8], n: usize, at: usize) -> HeadRead
     ensures { λ r. ⌜ r ≡ choiceHead (now (s .entry)) n at ⌝ }
 {
     match read_list(s, 1, n, at) {
-        Read::Got(heads) => HeadRead::Got(SheetKind::Choice(heads), heads.next),
+        Read::Got(heads) => HeadRead::Got(SheetKind::Choice(heads), heads.next, heads.next),
         Read::Refused(why) => HeadRead::Refused(why),
     }
 }
@@ -50,7 +50,7 @@ fn read_bounded(s: &[u8], weighs: bool, head: Atom, at: usize) -> HeadRead
     ensures { λ r. ⌜ r ≡ boundHead (now (s .entry)) weighs head at ⌝ }
 {
     match read_number(s, at) {
-        Read::Got(bound) => HeadRead::Got(bounded(weighs, head, bound.value), bound.next),
+        Read::Got(bound) => HeadRead::Got(bounded(weighs, head, bound.value), at, bound.next),
         Read::Refused(why) => HeadRead::Refused(why),
     }
 }
@@ -68,7 +68,7 @@ fn read_single(s: &[u8], n: usize, kind: usize, at: usize) -> HeadRead
         return refused(6, at);
     };
     if kind == BASIC {
-        return HeadRead::Got(SheetKind::Basic(head), number.next);
+        return HeadRead::Got(SheetKind::Basic(head), number.next, number.next);
     }
     read_bounded(s, kind == WEIGHT, head, number.next)
 }
@@ -101,7 +101,7 @@ pub fn read_rule(s: &[u8], n: usize, at: usize) -> RuleRead
     ensures { λ r. ⌜ r ≡ ruleAt (now (s .entry)) n at ⌝ }
 {
     match read_head(s, n, at) {
-        HeadRead::Got(kind, next) => read_body(s, n, kind, next),
+        HeadRead::Got(kind, bound, next) => read_body(s, n, kind, bound, next),
         HeadRead::Refused(why) => RuleRead::Refused(why),
     }
 }

@@ -5,7 +5,8 @@ use crate::answer::Refusal;
 use crate::sheet::{Kind, Literal, MOST_ATOMS, MOST_BYTES, MOST_RULES, MOST_WEIGHT, Rule, Sheet};
 
 /// The sheet that these bytes say. Refusal 9 is tested first; then the
-/// numbers in order, each by 1 or 2 and then by its value.
+/// numbers in order, each by 1, 2 or 15 and then by its value. A bound's
+/// value is tested where its rule ends.
 pub fn read_sheet(bytes: &[u8]) -> Result<Sheet, Refusal> {
     if bytes.len() > MOST_BYTES {
         return Err(Refusal { number: 9, place: MOST_BYTES });
@@ -83,14 +84,20 @@ impl Reader<'_> {
             Kind::Basic | Kind::Constraint | Kind::Weight => vec![self.atom()?.0],
         };
         let bound = match kind {
-            Kind::Constraint | Kind::Weight => Some(self.number()?.0),
+            Kind::Constraint | Kind::Weight => Some(self.number()?),
             Kind::Basic | Kind::Choice => None,
         };
         let positive = self.list(0)?;
         let negative = self.list(0)?;
-        let need = bound.unwrap_or((positive.len() + negative.len()) as u32);
         let positive = self.weighted(kind, positive)?;
         let negative = self.weighted(kind, negative)?;
+        let need = match bound {
+            Some((bound, place)) if u64::from(bound) > weight_of_all(&positive, &negative) => {
+                return Err(Refusal { number: 16, place });
+            }
+            Some((bound, _)) => bound,
+            None => (positive.len() + negative.len()) as u32,
+        };
         Ok(Rule { kind, heads, need, positive, negative })
     }
 
@@ -110,4 +117,15 @@ impl Reader<'_> {
     fn end(&self) -> Result<(), Refusal> {
         if self.place == self.bytes.len() { Ok(()) } else { Err(Refusal { number: 8, place: self.place }) }
     }
+}
+
+fn weight_of_all(positive: &[Literal], negative: &[Literal]) -> u64 {
+    let mut weight = 0;
+    for literal in positive {
+        weight += u64::from(literal.weight);
+    }
+    for literal in negative {
+        weight += u64::from(literal.weight);
+    }
+    weight
 }

@@ -10,7 +10,7 @@ use Rattle.numbers.specs.Number.{takenAt}
 use Rattle.numbers.specs.Lists.{numbersFrom}
 use Rattle.numbers.specs.declared.Span.{Span}
 use Rattle.numbers.proofs.lists.Numbers.{numbers-turn, numbers-over}
-use Rattle.sheet.specs.Meaning.{paired}
+use Rattle.sheet.specs.RuleMeaning.{paired}
 use Rattle.table.specs.inner.Words.{pairWidth}
 use Rattle.decode.specs.inner.Words.{withWords}
 use Rattle.decode.specs.inner.Taken.{numbersPast}

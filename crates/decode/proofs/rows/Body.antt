@@ -10,7 +10,7 @@ use Rattle.rules.specs.Sum.{pick}
 use Rattle.rules.specs.Rule.{one, ones}
 use Rattle.numbers.specs.Lists.{numbersFrom}
 use Rattle.numbers.proofs.lists.Numbers.{numbers-count}
-use Rattle.sheet.specs.Meaning.{paired}
+use Rattle.sheet.specs.RuleMeaning.{paired}
 use Rattle.sheet.proofs.rule.Apart.{weigh-length}
 use Rattle.table.specs.inner.Words.{pairWidth}
 use Rattle.decode.specs.inner.Taken.{numbersPast, listTaken, listPast, literalsTaken, literalsPast, bodyTaken}

@@ -12,7 +12,7 @@ use Rattle.numbers.specs.Answer.{span}
 use Rattle.numbers.specs.Number.{takenAt}
 use Rattle.numbers.specs.Lists.{numbersFrom}
 use Rattle.numbers.specs.declared.Span.{Span}
-use Rattle.sheet.specs.Meaning.{paired}
+use Rattle.sheet.specs.RuleMeaning.{paired}
 use Rattle.table.specs.inner.Rows.{kindOf}
 
 -- the place after so many numbers

@@ -6,7 +6,7 @@ use native.Mathlib.Omega.{arith}
 use lib.ListN.{length, length-map}
 use Rattle.rules.specs.Rule.{Weighted, ones, atomsOf, weightsOf}
 use Rattle.numbers.specs.shown.Encode.{listBytes}
-use Rattle.sheet.specs.Meaning.{paired}
+use Rattle.sheet.specs.RuleMeaning.{paired}
 
 pub ones-atoms : (xs : List ℕ) → atomsOf (ones xs) ≡ xs
 ones-atoms [] = refl

@@ -1,5 +1,5 @@
 -- A rule is the body after its head part: where the head part is read, the body comes next, and a refusal is handed up, in each of the
--- four kinds alike.
+-- four kinds alike. A kind without a bound is never refused by 16.
 use Prim.Native.Nat.{ℕ}
 use mathlib.Core.Path.{_≡_, refl, sym, ap, _∙_}
 use mathlib.Core.Bool.{Bool, true, false}
@@ -19,14 +19,16 @@ use Rattle.numbers.specs.declared.Refusal.{Refusal}
 use Rattle.numbers.specs.declared.Span.{Span}
 use Rattle.numbers.specs.declared.Read.{Read}
 use Rattle.numbers.specs.declared.Read.the-variants.{Got, Refused}
-use Rattle.sheet.specs.Body.{bodyAt}
+use Rattle.sheet.specs.Body.{bodyAt, unlessDead}
 use Rattle.sheet.specs.Rule.{headThen, basicAt, boundedAt, choiceAt, ruleAt}
 use Rattle.sheet.specs.inner.Head.{choiceHead, boundHead, singleHead, headAt, bodyAfter}
 use Rattle.sheet.specs.declared.SheetKind.{SheetKind}
+use Rattle.sheet.specs.declared.SheetKind.the-variants.{Basic, Choice}
 use Rattle.sheet.specs.declared.HeadRead.{HeadRead}
 use Rattle.sheet.specs.declared.HeadRead.the-variants.{Got as GotHead, Refused as RefusedHead}
 use Rattle.sheet.specs.declared.RuleRead.{RuleRead}
 use Rattle.sheet.specs.declared.RuleRead.the-variants.{Refused as RefusedRule}
+use Rattle.sheet.proofs.body.Dead.{never-dead}
 use Rattle.sheet.proofs.rule.Ran.{boundedKind}
 
 module _ (s : List ℕ) (n : ℕ) where
@@ -58,7 +60,8 @@ module _ (s : List ℕ) (n : ℕ) where
   module _ (at : ℕ) where
     basic-after : bodyAfter s n (singleHead s n (kindNumber basic) at) ≡ basicAt s n at
     unfolding singleHead basicAt headThen pick bodyAfter
-    basic-after = after-read (numberAt s at) _ _ (λ number. after-atom _ (checkedAtom n (number .value)) _ _ (λ head. refl))
+    basic-after = after-read (numberAt s at) _ _ (λ number. after-atom _ (checkedAtom n (number .value)) _ _
+        (λ head. never-dead s n (Basic head) (number .next) (number .next) refl (λ length. refl)))
 
     bounded-after : (weighs : Bool) → bodyAfter s n (singleHead s n (kindNumber (boundedKind weighs)) at) ≡ boundedAt s n weighs at
     unfolding singleHead boundHead boundedAt headThen pick bodyAfter
@@ -73,7 +76,7 @@ module _ (s : List ℕ) (n : ℕ) where
 
     choice-after : bodyAfter s n (choiceHead s n at) ≡ choiceAt s n at
     unfolding choiceHead choiceAt bodyAfter
-    choice-after = after-read (listAt s 1 n at) _ _ (λ heads. refl)
+    choice-after = after-read (listAt s 1 n at) _ _ (λ heads. never-dead s n (Choice heads) (heads .next) (heads .next) refl (λ length. refl))
 
     -- a kind's number names its head part
     single : (v k : ℕ) (r : RuleRead) → bodyAfter s n (singleHead s n k at) ≡ r → v ≡ k → bodyAfter s n (singleHead s n v at) ≡ r
@@ -91,14 +94,16 @@ module _ (s : List ℕ) (n : ℕ) where
 
     -- the law as it is used: x is the head part that was answered, and r the rule
     module _ (r : RuleRead) (x : HeadRead) (h : x ≡ headAt s n at) where
-      pub after-head : (kind : SheetKind) (next : ℕ) → x ≡ GotHead kind next → r ≡ bodyAt s n kind next → r ≡ ruleAt s n at
+      pub after-head :
+          (kind : SheetKind) (bound next : ℕ) → x ≡ GotHead kind bound next → r ≡ unlessDead s bound (bodyAt s n kind next) → r ≡ ruleAt s n at
       unfolding bodyAfter
-      after-head kind next g e = e ∙ ap (λ (t : HeadRead). bodyAfter s n t) (sym g ∙ h) ∙ rule-after
+      after-head kind bound next g e = e ∙ ap (λ (t : HeadRead). bodyAfter s n t) (sym g ∙ h) ∙ rule-after
 
       pub no-head : (why : Refusal) → x ≡ RefusedHead why → r ≡ RefusedRule why → r ≡ ruleAt s n at
       unfolding bodyAfter
       no-head why g e = e ∙ ap (λ (t : HeadRead). bodyAfter s n t) (sym g ∙ h) ∙ rule-after
 
 -- a head part with a kind that was computed
-pub kind-by : (kind other : SheetKind) (next : ℕ) (x : HeadRead) → x ≡ GotHead kind next → kind ≡ other → x ≡ GotHead other next
-kind-by kind other next x e h = e ∙ ap (λ (k : SheetKind). GotHead k next) h
+pub kind-by :
+    (kind other : SheetKind) (bound next : ℕ) (x : HeadRead) → x ≡ GotHead kind bound next → kind ≡ other → x ≡ GotHead other bound next
+kind-by kind other bound next x e h = e ∙ ap (λ (k : SheetKind). GotHead k bound next) h

@@ -7,7 +7,9 @@ use mathlib.Core.List.{List, [], _∷_, _++_}
 use native.Mathlib.Omega.{arith}
 use lib.ListN.{length, length-map}
 use Rattle.rules.specs.Rule.{Rule, basic, constraint, choice, weight, kindNumber, one}
+use Rattle.rules.specs.Stable.{weightSum, Living}
 use Rattle.rules.specs.declared.Atom.{Atom}
+use Rattle.rules.proofs.Dead.{length-living}
 use Rattle.numbers.specs.Number.{numberAt}
 use Rattle.numbers.specs.Lists.{listAt, numbersOf}
 use Rattle.numbers.specs.shown.Encode.{numberBytes, numbersBytes, listBytes, IsBytes, Rising}
@@ -19,19 +21,21 @@ use Rattle.numbers.proofs.number.Most.{number-most, number-far}
 use Rattle.numbers.proofs.number.Encoded.{number-bytes}
 use Rattle.numbers.proofs.lists.Whole.{list-ran}
 use Rattle.sheet.specs.Rule.{basicAt, boundedAt, choiceAt, ruleAt}
-use Rattle.sheet.specs.Meaning.{paired, ruleBy, ruleMeant}
+use Rattle.sheet.specs.RuleMeaning.{paired, ruleBy, ruleMeant}
 use Rattle.sheet.specs.shown.Encode.{ruleBytes, ProperRule, isBasic, isConstraint, isChoice, isWeight, ruleSize, Light}
 use Rattle.sheet.specs.declared.SheetKind.{SheetKind}
 use Rattle.sheet.specs.declared.SheetKind.the-variants.{Basic, Constraint, Choice, Weight}
 use Rattle.sheet.specs.declared.SheetRule.{SheetRule}
 use Rattle.sheet.specs.declared.RuleRead.the-variants.{Got as GotRule, Refused as RefusedRule}
 use Rattle.sheet.proofs.body.Ran.{BodyRan, body-ran, body-bytes, plain-bytes, body-far, not-rule}
+use Rattle.sheet.proofs.body.Dead.{Lives, from-dead}
 use Rattle.sheet.proofs.rule.Apart.{ones-lists, weigh-atoms, weigh-weights, weigh-length}
 use Rattle.sheet.proofs.rule.Ran.{Cases, basicCase, boundedCase, choiceCase, cases, boundedKind, HeadRan, head-ran}
 
 -- a rule that was read, and what it says
 pub record RuleRan (s : List ℕ) (n at : ℕ) (r : SheetRule) (m : Rule) : Type 0 where
   pub proper : ProperRule n m
+  pub living : Living m
   pub place : ℕ
   pub body : BodyRan s n (r .kind) place r
   pub need : m .need ≡ r .need
@@ -47,6 +51,16 @@ module _ (s : List ℕ) (n at : ℕ) (r : SheetRule) (k : Span) (number : number
   unfolding ruleMeant
   by-kind kind e h = subst (λ (d : SheetKind). RuleRan s n at r (ruleBy s d (r .positive) (r .negated))) (sym e) h
 
+  -- its need, as the kind that it was found to be has it
+  living-by :
+      (kind : SheetKind) → r .kind ≡ kind → (need : ℕ) → r .need ≡ need → Lives s r
+      → need ≤ weightSum (ruleBy s kind (r .positive) (r .negated))
+  unfolding ruleMeant
+  living-by kind e need d l =
+      let w : weightSum (ruleMeant s r) ≡ weightSum (ruleBy s kind (r .positive) (r .negated)) =
+      ap (λ (k : SheetKind). weightSum (ruleBy s k (r .positive) (r .negated))) e in
+      omega (arith, d, l, w)
+
   basic-ran : k .value ≡ kindNumber basic → basicAt s n (k .next) ≡ GotRule r → RuleRan s n at r (ruleMeant s r)
   unfolding basicAt ruleBytes
   basic-ran v e =
@@ -58,6 +72,7 @@ module _ (s : List ℕ) (n at : ℕ) (r : SheetRule) (k : Span) (number : number
       by-kind (Basic (g .0)) (b .kindIs)
       (record {
         proper = isBasic (g .0 .number) xs ys refl (h .within) (b .positive .rising) (b .negated .rising);
+        living = length-living _ xs ys refl refl refl;
         place = g .1;
         body = subst (λ (d : SheetKind). BodyRan s n d (g .1) r) (sym (b .kindIs)) b;
         need = omega (arith, b .needIs, b .positive .count, b .negated .count);
@@ -88,6 +103,7 @@ module _ (s : List ℕ) (n at : ℕ) (r : SheetRule) (k : Span) (number : number
         proper =
             isChoice (numbersOf s (g .0)) xs ys refl (omega (arith, h .low, h .count)) (h .rising) (b .positive .rising)
             (b .negated .rising);
+        living = length-living _ xs ys refl refl refl;
         place = g .0 .next;
         body = subst (λ (d : SheetKind). BodyRan s n d (g .0 .next) r) (sym (b .kindIs)) b;
         need = omega (arith, b .needIs, b .positive .count, b .negated .count);
@@ -122,9 +138,10 @@ module _ (s : List ℕ) (n at : ℕ) (r : SheetRule) (k : Span) (number : number
           joined (kind-bytes v e is) (joined (h .bytes is) (joined (number-bytes s is place bound number′) d))
 
       constraint-ran :
-          k .value ≡ kindNumber constraint → BodyRan s n (Constraint head (bound .value)) (bound .next) r → RuleRan s n at r (ruleMeant s r)
+          k .value ≡ kindNumber constraint → BodyRan s n (Constraint head (bound .value)) (bound .next) r → Lives s r
+          → RuleRan s n at r (ruleMeant s r)
       unfolding ruleBytes
-      constraint-ran v b =
+      constraint-ran v b l =
           let xs = numbersOf s (r .positive .atoms) in
           let ys = numbersOf s (r .negated .atoms) in
           by-kind (Constraint head (bound .value)) (b .kindIs)
@@ -133,6 +150,7 @@ module _ (s : List ℕ) (n at : ℕ) (r : SheetRule) (k : Span) (number : number
                 isConstraint (head .number) (bound .value) xs ys refl (h .within) (number-most s place bound number′)
                 (b .positive .rising)
                 (b .negated .rising);
+            living = living-by (Constraint head (bound .value)) (b .kindIs) (bound .value) (b .needIs) l;
             place = bound .next;
             body = subst (λ (d : SheetKind). BodyRan s n d (bound .next) r) (sym (b .kindIs)) b;
             need = sym (b .needIs);
@@ -151,9 +169,9 @@ module _ (s : List ℕ) (n at : ℕ) (r : SheetRule) (k : Span) (number : number
                 (stands-as (ones-lists xs ys) (plain-bytes s n (Constraint head (bound .value)) (bound .next) r (λ c. refl) b is));
           })
 
-      weight-ran : k .value ≡ kindNumber weight → BodyRan s n (Weight head (bound .value)) (bound .next) r → RuleRan s n at r (ruleMeant s r)
+      weight-ran : k .value ≡ kindNumber weight → BodyRan s n (Weight head (bound .value)) (bound .next) r → Lives s r → RuleRan s n at r (ruleMeant s r)
       unfolding ruleBytes
-      weight-ran v b =
+      weight-ran v b l =
           let xs = numbersOf s (r .positive .atoms) in
           let ys = numbersOf s (r .negated .atoms) in
           let vs = numbersOf s (r .positive .weights) in
@@ -169,6 +187,7 @@ module _ (s : List ℕ) (n at : ℕ) (r : SheetRule) (k : Span) (number : number
                 (subst (λ (l : List ℕ). Rising n l) (sym (weigh-atoms ys ws f)) (b .negated .rising))
                 (subst (λ (l : List ℕ). Light l) (sym (weigh-weights xs vs e)) (b .above .light))
                 (subst (λ (l : List ℕ). Light l) (sym (weigh-weights ys ws f)) (b .below .light));
+            living = living-by (Weight head (bound .value)) (b .kindIs) (bound .value) (b .needIs) l;
             place = bound .next;
             body = subst (λ (d : SheetKind). BodyRan s n d (bound .next) r) (sym (b .kindIs)) b;
             need = sym (b .needIs);
@@ -198,11 +217,13 @@ module _ (s : List ℕ) (n at : ℕ) (r : SheetRule) (k : Span) (number : number
   bounded-ran false v e =
       let g = head-ran s n (k .next) _ r e in
       let q = from-read RefusedRule _ (numberAt s (g .1)) not-rule (g .3) in
-      constraint-ran (g .0) (g .1) (g .2) (q .0) (q .1) v (body-ran s n (Constraint (g .0) (q .0 .value)) (q .0 .next) r (q .2))
+      let d = from-dead s (g .1) _ r (q .2) in
+      constraint-ran (g .0) (g .1) (g .2) (q .0) (q .1) v (body-ran s n (Constraint (g .0) (q .0 .value)) (q .0 .next) r (d .0)) (d .1)
   bounded-ran true v e =
       let g = head-ran s n (k .next) _ r e in
       let q = from-read RefusedRule _ (numberAt s (g .1)) not-rule (g .3) in
-      weight-ran (g .0) (g .1) (g .2) (q .0) (q .1) v (body-ran s n (Weight (g .0) (q .0 .value)) (q .0 .next) r (q .2))
+      let d = from-dead s (g .1) _ r (q .2) in
+      weight-ran (g .0) (g .1) (g .2) (q .0) (q .1) v (body-ran s n (Weight (g .0) (q .0 .value)) (q .0 .next) r (d .0)) (d .1)
 
 pub rule-ran : (s : List ℕ) (n at : ℕ) (r : SheetRule) → ruleAt s n at ≡ GotRule r → RuleRan s n at r (ruleMeant s r)
 rule-ran s n at r e = let g = cases s n at r e in by (g .0) (g .1) (g .2)

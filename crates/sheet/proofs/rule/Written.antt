@@ -1,38 +1,64 @@
--- What is written for a rule of one of the four kinds is read as that rule: the number of its kind, its head part and its body.
-use Prim.Native.Nat.{ℕ, _+_, _≤_}
+-- What is written for a rule of one of the four kinds is read as that rule: the number of its kind, its head part and its body. Then it is
+-- refused by 16, at its bound, where its need is above the sum of its weights.
+use Prim.Native.Nat.{ℕ, _+_, _≤_, _<_}
 use mathlib.Core.Path.{_≡_, refl, sym, ap, ap₂, subst, _∙_}
 use mathlib.Core.Bool.{Bool, true, false}
 use mathlib.Core.List.{List, [], _∷_, _++_, flatMap, append-assoc, append-nil}
 use native.Mathlib.Omega.{arith}
-use lib.ListN.{length, drop}
+use lib.ListN.{length, drop, length-append}
+use borrow.Author.Tests.{lt-ltb}
 use Rattle.rules.specs.Limits.{numberMost}
 use Rattle.rules.specs.Rule.{Rule, Weighted, Within, ones, basicRule, constraintRule, choiceRule, weightRule, atomsOf, weightsOf}
 use Rattle.rules.specs.Sum.{pick}
+use Rattle.rules.specs.Stable.{weightSum, Dead, Living}
 use Rattle.rules.specs.declared.Atom.{Atom}
 use Rattle.rules.proofs.Inside.{atom-made}
-use Rattle.numbers.specs.Answer.{readThen, atomThen, span}
+use Rattle.rules.proofs.Dead.{length-living}
+use Rattle.numbers.specs.Answer.{refusal, readThen, atomThen, span}
 use Rattle.numbers.specs.Number.{numberAt}
 use Rattle.numbers.specs.Lists.{numbersOf}
 use Rattle.numbers.specs.shown.Encode.{numberBytes, numbersBytes, listBytes, none, Rising}
 use Rattle.numbers.specs.declared.Read.the-variants.{Got}
 use Rattle.numbers.proofs.number.Encoded.{number-read, past}
 use Rattle.numbers.proofs.lists.Whole.{listSpan, list-read, list-numbers, list-past}
-use Rattle.sheet.specs.Body.{bodyAt}
+use Rattle.sheet.specs.Body.{needFor, bodyAt, unlessAbove, unlessDead}
 use Rattle.sheet.specs.Rule.{headThen, bounded, basicAt, boundedAt, choiceAt, ruleAt}
-use Rattle.sheet.specs.Meaning.{paired, pairedIn, ruleBy, ruleMeant}
-use Rattle.sheet.specs.shown.Encode.{ruleBytes, ProperRule, isBasic, isConstraint, isChoice, isWeight, Light}
+use Rattle.sheet.specs.RuleMeaning.{paired, pairedIn, ruleBy, ruleMeant}
+use Rattle.sheet.specs.shown.Encode.{ruleBytes, beforeBound, ProperRule, isBasic, isConstraint, isChoice, isWeight, Light}
 use Rattle.sheet.specs.declared.SheetKind.{SheetKind}
 use Rattle.sheet.specs.declared.SheetKind.the-variants.{Basic, Constraint, Choice, Weight}
 use Rattle.sheet.specs.declared.SheetRule.{SheetRule}
 use Rattle.sheet.specs.declared.RuleRead.{RuleRead}
 use Rattle.sheet.specs.declared.RuleRead.the-variants.{Got as GotRule, Refused as RefusedRule}
+use Rattle.sheet.proofs.body.Ran.{body-ran}
+use Rattle.sheet.proofs.body.Dead.{Lives, lives-on}
 use Rattle.sheet.proofs.body.Written.{BodyWritten, body-written}
 use Rattle.sheet.proofs.rule.Apart.{plain-body, sizes, weigh-back}
 
 pub record RuleWritten (s : List ℕ) (n at : ℕ) (m : Rule) (q : List ℕ) (r : SheetRule) : Type 0 where
-  pub reads : ruleAt s n at ≡ GotRule r
+  pub reads : ruleAt s n at ≡ unlessDead s (at + beforeBound m) (GotRule r)
   pub means : ruleMeant s r ≡ m
+  pub need : r .need ≡ m .need
   pub rest : drop (r .next) s ≡ q
+
+-- its need is at most the sum of its weights, or above it, as it means
+module _ (s : List ℕ) {m : Rule} (r : SheetRule) (means : ruleMeant s r ≡ m) (need : r .need ≡ m .need) where
+  lives : Living m → Lives s r
+  lives l = omega (arith, need, l, ap (λ (t : Rule). weightSum t) means)
+
+  dies : Dead m → weightSum (ruleMeant s r) < r .need
+  dies d = omega (arith, need, d, ap (λ (t : Rule). weightSum t) means)
+
+module _ {s : List ℕ} {n at : ℕ} {m : Rule} {q : List ℕ} {r : SheetRule} (w : RuleWritten s n at m q r) where
+  pub living-read : Living m → ruleAt s n at ≡ GotRule r
+  living-read l = w .reads ∙ lives-on s (at + beforeBound m) (GotRule r) r refl (lives s r (w .means) (w .need) l)
+
+  pub dead-read : Dead m → ruleAt s n at ≡ RefusedRule (refusal 16 (at + beforeBound m))
+  unfolding unlessDead unlessAbove pick
+  dead-read d =
+      w .reads
+      ∙ ap (λ (b : Bool). pick b (RefusedRule (refusal 16 (at + beforeBound m))) (GotRule r))
+      (lt-ltb (weightSum (ruleMeant s r)) (r .need) (dies s r (w .means) (w .need) d))
 
 abbrev numbered : ℕ → Atom
 numbered h = record { number = h }
@@ -62,7 +88,26 @@ module _ {s : List ℕ} {n at : ℕ} {kind : SheetKind} {xs ys vs ws q : List �
       (ap₂ (λ (us ts : List ℕ). paired us ts) (b .positive ∙ ex) (b .above ∙ ev) ∙ weigh-back ls)
       (ap₂ (λ (us ts : List ℕ). paired us ts) (b .negated ∙ ey) (b .below ∙ ew) ∙ weigh-back ms)
 
+  needed : r .need ≡ needFor kind (length xs + length ys)
+  needed =
+      let o = body-ran s n kind at r (b .reads) in
+      o .needIs
+      ∙ ap₂ (λ (j k : ℕ). needFor kind (j + k)) (sym (o .positive .count) ∙ ap length (b .positive))
+      (sym (o .negated .count) ∙ ap length (b .negated))
+
 module _ (s : List ℕ) (n at : ℕ) (m : n ≤ numberMost) where
+  -- a rule without a bound
+  plainly :
+      (t : Rule) (q : List ℕ) (r : SheetRule) → ruleAt s n at ≡ GotRule r → ruleMeant s r ≡ t → r .need ≡ t .need → Living t
+      → drop (r .next) s ≡ q → RuleWritten s n at t q r
+  plainly t q r e means need l rest =
+      record {
+        reads = e ∙ sym (lives-on s (at + beforeBound t) (GotRule r) r refl (lives s r means need l));
+        means = means;
+        need = need;
+        rest = rest;
+      }
+
   basic-written :
       (h : ℕ) (xs ys q : List ℕ) → Within n h → Rising n xs → Rising n ys → drop at s ≡ ruleBytes (basicRule h xs ys) ++ q
       → (r : SheetRule) × RuleWritten s n at (basicRule h xs ys) q r
@@ -78,11 +123,12 @@ module _ (s : List ℕ) (n at : ℕ) (m : n ≤ numberMost) where
       let a₂ : ℕ = a₁ + length (numberBytes h) in
       let b = body-written s n (Basic (numbered h)) a₂ xs ys [] [] q m rx ry none none refl refl (past s (numberBytes h) x a₁ d₂) in (
         b .0,
-        record {
-          reads = simp (number-read s at 1 _ (omega arith) d₁, head-read s n a₁ h x (λ head next. bodyAt s n (Basic head) next) m w d₂, b .1 .reads);
-          means = by-kind (b .1) ∙ by-lists (b .1) (λ us vs. basicRule h us vs);
-          rest = b .1 .rest;
-        },
+        plainly (basicRule h xs ys) q (b .0)
+            (simp (number-read s at 1 _ (omega arith) d₁, head-read s n a₁ h x (λ head next. bodyAt s n (Basic head) next) m w d₂, b .1 .reads))
+            (by-kind (b .1) ∙ by-lists (b .1) (λ us vs. basicRule h us vs))
+            (needed (b .1))
+            (length-living (basicRule h xs ys) xs ys refl refl refl)
+            (b .1 .rest),
       )
     where
       regroup : (a b c e : List ℕ) → (a ++ ((b ++ []) ++ c)) ++ e ≡ a ++ (b ++ (c ++ e))
@@ -112,14 +158,14 @@ module _ (s : List ℕ) (n at : ℕ) (m : n ≤ numberMost) where
       body-written s n (Choice (listSpan a₁ hs)) a₂ xs ys [] [] q m rx ry none none refl refl
       (list-past s 1 n a₁ hs x m rh d₂) in (
         b .0,
-        record {
-          reads = simp (number-read s at 3 _ (omega arith) d₁, list-read s 1 n a₁ hs x m rh d₂ o, b .1 .reads);
-          means =
-              by-kind (b .1)
-              ∙ by-lists (b .1) (λ us vs. choiceRule (numbersOf s (listSpan a₁ hs)) us vs)
-              ∙ ap (λ (us : List ℕ). choiceRule us xs ys) (list-numbers s 1 n a₁ hs x m rh d₂);
-          rest = b .1 .rest;
-        },
+        plainly (choiceRule hs xs ys) q (b .0)
+            (simp (number-read s at 3 _ (omega arith) d₁, list-read s 1 n a₁ hs x m rh d₂ o, b .1 .reads))
+            (by-kind (b .1)
+            ∙ by-lists (b .1) (λ us vs. choiceRule (numbersOf s (listSpan a₁ hs)) us vs)
+            ∙ ap (λ (us : List ℕ). choiceRule us xs ys) (list-numbers s 1 n a₁ hs x m rh d₂))
+            (needed (b .1))
+            (length-living (choiceRule hs xs ys) xs ys refl refl refl)
+            (b .1 .rest),
       )
     where
       regroup : (a b c e : List ℕ) → (a ++ (b ++ c)) ++ e ≡ a ++ (b ++ (c ++ e))
@@ -129,7 +175,9 @@ module _ (s : List ℕ) (n at : ℕ) (m : n ≤ numberMost) where
   record BoundWritten (weighs : Bool) (v h k : ℕ) (q : List ℕ) : Type 0 where
     kind : numberAt s at ≡ Got (span v at (at + length (numberBytes v)))
     place : ℕ
-    bound : boundedAt s n weighs (at + length (numberBytes v)) ≡ bodyAt s n (bounded weighs (numbered h) k) place
+    bound :
+        boundedAt s n weighs (at + length (numberBytes v))
+        ≡ unlessDead s (at + length (numberBytes v ++ numbersBytes (h ∷ []))) (bodyAt s n (bounded weighs (numbered h) k) place)
     rest : drop place s ≡ q
 
   bound-written :
@@ -143,19 +191,23 @@ module _ (s : List ℕ) (n at : ℕ) (m : n ≤ numberMost) where
       let d₂ : drop a₁ s ≡ numberBytes h ++ (numberBytes k ++ (c ++ q)) = past s (numberBytes v) _ at d₁ in
       let a₂ : ℕ = a₁ + length (numberBytes h) in
       let d₃ : drop a₂ s ≡ numberBytes k ++ (c ++ q) = past s (numberBytes h) _ a₁ d₂ in
+      let a₃ : ℕ = a₂ + length (numberBytes k) in
+      let read : boundedAt s n weighs a₁ ≡ unlessDead s a₂ (bodyAt s n (bounded weighs (numbered h) k) a₃) =
+      simp (
+        head-read s n a₁ h _
+            (λ head next. readThen RefusedRule (numberAt s next)
+            (λ bound. unlessDead s next (bodyAt s n (bounded weighs head (bound .value)) (bound .next))))
+            m
+            w
+            d₂,
+        number-read s a₂ k _ mk d₃,
+      ) in
+      let first : a₂ ≡ at + length (numberBytes v ++ (numberBytes h ++ [])) =
+      omega (arith, length-append (numberBytes v) (numberBytes h ++ []), ap length (append-nil (numberBytes h))) in
       record {
         kind = number-read s at v _ mv d₁;
-        place = a₂ + length (numberBytes k);
-        bound =
-            simp (
-              head-read s n a₁ h _
-                  (λ head next. readThen RefusedRule (numberAt s next)
-                  (λ bound. bodyAt s n (bounded weighs head (bound .value)) (bound .next)))
-                  m
-                  w
-                  d₂,
-              number-read s a₂ k _ mk d₃,
-            );
+        place = a₃;
+        bound = read ∙ ap (λ (p : ℕ). unlessDead s p (bodyAt s n (bounded weighs (numbered h) k) a₃)) first;
         rest = past s (numberBytes k) _ a₂ d₃;
       }
     where
@@ -176,6 +228,7 @@ module _ (s : List ℕ) (n at : ℕ) (m : n ≤ numberMost) where
         record {
           reads = simp (g .kind, g .bound, b .1 .reads);
           means = by-kind (b .1) ∙ by-lists (b .1) (λ us vs. constraintRule h k us vs);
+          need = needed (b .1);
           rest = b .1 .rest;
         },
       )
@@ -198,6 +251,7 @@ module _ (s : List ℕ) (n at : ℕ) (m : n ≤ numberMost) where
         record {
           reads = simp (g .kind, g .bound, b .1 .reads);
           means = by-kind (b .1) ∙ weighed-back (b .1) (λ us vs. weightRule h k us vs) xs ys refl refl refl refl;
+          need = needed (b .1);
           rest = b .1 .rest;
         },
       )

@@ -24,7 +24,7 @@ use Rattle.numbers.proofs.lists.Whole.{list-ran}
 use Rattle.sheet.specs.Rule.{ruleStep, rulesAt}
 use Rattle.sheet.specs.Sheet.{editionAt, tailAt, restAt, wholeAt, sheetRead}
 use Rattle.sheet.specs.Meaning.{rulesFrom, sheetMeant}
-use Rattle.sheet.specs.shown.Encode.{rulesBytes, encode, WellFormed, ProperRules, rulesSize}
+use Rattle.sheet.specs.shown.Encode.{rulesBytes, encode, AllLiving, WellFormed, ProperRules, rulesSize}
 use Rattle.sheet.specs.declared.Outline.{Outline}
 use Rattle.sheet.specs.declared.SheetRead.the-variants.{Accepted, Refused as RefusedSheet}
 use Rattle.sheet.proofs.sheet.Rules.{rules-ran}
@@ -145,6 +145,7 @@ sheet-ran s o e =
         atoms = omega (arith, a .high, p .atomsAre);
         count = omega (arith, size, k .0, c .high);
         rules = subst (λ (rs : List Rule). ProperRules (o .atoms) rs) same (r .propers);
+        living = subst (λ (rs : List Rule). AllLiving rs) same (r .living);
         computeIn = i .rising;
         computeOut = u .rising;
       };

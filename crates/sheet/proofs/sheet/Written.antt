@@ -2,7 +2,7 @@
 -- nothing is left.
 use Prim.Native.Nat.{ℕ, _+_, _≤_}
 use mathlib.Core.Path.{_≡_, refl, sym, ap, ap₂, _∙_}
-use mathlib.Core.List.{List, [], _∷_, _++_, flatMap, append-assoc, append-nil}
+use mathlib.Core.List.{List, [], _∷_, _++_, flatMap, append-assoc, append-nil, List·Memᴰ·head, List·Memᴰ·tail}
 use native.Mathlib.Omega.{arith}
 use lib.ListN.{length, drop, length-drop}
 use borrow.Author.Tests.{le-ltb}
@@ -21,12 +21,12 @@ use Rattle.numbers.proofs.lists.Whole.{listSpan, within-read, list-read, list-n
 use Rattle.sheet.specs.Rule.{ruleStep, rulesAt}
 use Rattle.sheet.specs.Sheet.{editionAt, tailAt, restAt, wholeAt, sheetRead, sheetThen}
 use Rattle.sheet.specs.Meaning.{rulesFrom, sheetMeant, accepted, refused, sheetOf}
-use Rattle.sheet.specs.shown.Encode.{ruleBytes, rulesBytes, encode, WellFormed, ProperRules, noRules, andRule}
+use Rattle.sheet.specs.shown.Encode.{ruleBytes, rulesBytes, encode, AllLiving, WellFormed, ProperRules, noRules, andRule}
 use Rattle.sheet.specs.declared.Outline.{Outline}
 use Rattle.sheet.specs.declared.SheetRead.{SheetRead}
 use Rattle.sheet.specs.declared.SheetRead.the-variants.{Accepted}
 use Rattle.sheet.proofs.rule.Laws.{step-got}
-use Rattle.sheet.proofs.rule.Written.{rule-written}
+use Rattle.sheet.proofs.rule.Written.{rule-written, living-read}
 use Rattle.sheet.proofs.sheet.Rules.{rules-more}
 
 -- rules that were written
@@ -36,21 +36,22 @@ pub record RulesWritten (s : List ℕ) (n before : ℕ) (rs : List Rule) (q : Li
   pub rest : drop (p .next) s ≡ q
 
 pub rules-written :
-    (s : List ℕ) (n before : ℕ) → n ≤ numberMost → {rs : List Rule} → ProperRules n rs → (done : Span) (q : List ℕ)
+    (s : List ℕ) (n before : ℕ) → n ≤ numberMost → {rs : List Rule} → ProperRules n rs → AllLiving rs → (done : Span) (q : List ℕ)
     → drop (done .next) s ≡ rulesBytes rs ++ q → (p : Span) × RulesWritten s n before rs q done p
 unfolding inTurn rulesFrom flatMap readThen
-rules-written s n before m noRules done q d = (done, record { reads = refl; means = refl; rest = d })
-rules-written s n before m (andRule {r = t} {rs = rs} proper others) done q d =
+rules-written s n before m noRules l done q d = (done, record { reads = refl; means = refl; rest = d })
+rules-written s n before m (andRule {r = t} {rs = rs} proper others) l done q d =
     let g = rule-written s n (done .next) m t (rulesBytes rs ++ q) proper (d ∙ append-assoc (ruleBytes t) (rulesBytes rs) q) in
     let r = g .0 in
-    let o = rules-written s n before m others (upTo done (r .next)) q (g .1 .rest) in (
+    let e = living-read (g .1) (l t (List·Memᴰ·head refl)) in
+    let o = rules-written s n before m others (λ u i. l u (List·Memᴰ·tail i)) (upTo done (r .next)) q (g .1 .rest) in (
       o .0,
       record {
         reads =
             ap (λ (a : Read). readThen Refused a (λ one. inTurn (ruleStep s n) (length rs) (one .value) (upTo done (one .next))))
-            (step-got s n before (done .next) _ r refl (g .1 .reads))
+            (step-got s n before (done .next) _ r refl e)
             ∙ o .1 .reads;
-        means = rules-more s n (length rs) (done .next) r (g .1 .reads) ∙ ap₂ (λ (a : Rule) (l : List Rule). a ∷ l) (g .1 .means) (o .1 .means);
+        means = rules-more s n (length rs) (done .next) r e ∙ ap₂ (λ (a : Rule) (l : List Rule). a ∷ l) (g .1 .means) (o .1 .means);
         rest = o .1 .rest;
       },
     )
@@ -88,11 +89,11 @@ tail-written s n rules xs ys m rx ry d =
       outsAre = list-numbers s 0 n a ys [] m ry d₂;
     }
 
-atoms-small : (v : ℕ) → v ≤ atomsMost → v ≤ numberMost
+pub atoms-small : (v : ℕ) → v ≤ atomsMost → v ≤ numberMost
 unfolding atomsMost numberMost
 atoms-small v h = omega arith
 
-rules-small : (v : ℕ) → v ≤ rulesMost → v ≤ numberMost
+pub rules-small : (v : ℕ) → v ≤ rulesMost → v ≤ numberMost
 unfolding rulesMost numberMost
 rules-small v h = omega arith
 
@@ -124,7 +125,7 @@ rest-written s sh at w d =
     let q : List ℕ = listBytes (sh .computeIn) ++ listBytes (sh .computeOut) in
     let m : n ≤ numberMost = atoms-small n (w .atoms) in
     let e = number-read s at c (rulesBytes (sh .rules) ++ q) (rules-small c (w .count)) d in
-    let g = rules-written s n 0 m (w .rules) (span c a a) q (past s (numberBytes c) _ at d) in
+    let g = rules-written s n 0 m (w .rules) (w .living) (span c a a) q (past s (numberBytes c) _ at d) in
     let p = g .0 in
     let h = run-keeps (ruleStep s n) c 0 (span c a a) p (g .1 .reads) in
     let t = tail-written s n p (sh .computeIn) (sh .computeOut) m (w .computeIn) (w .computeOut) (g .1 .rest) in

@@ -10,7 +10,7 @@ use Rattle.rules.specs.declared.Atom.{Atom}
 use Rattle.numbers.specs.Answer.{refusal, readThen, atomThen}
 use Rattle.numbers.specs.Number.{numberAt}
 use Rattle.numbers.specs.Lists.{listAt}
-use Rattle.sheet.specs.Body.{bodyAt}
+use Rattle.sheet.specs.Body.{bodyAt, unlessDead}
 use Rattle.sheet.specs.Rule.{bounded}
 use Rattle.sheet.specs.declared.SheetKind.the-variants.{Basic, Choice}
 use Rattle.sheet.specs.declared.HeadRead.{HeadRead}
@@ -19,19 +19,19 @@ use Rattle.sheet.specs.declared.RuleRead.{RuleRead}
 use Rattle.sheet.specs.declared.RuleRead.the-variants.{Refused as RefusedRule}
 
 unfoldable pub choiceHead : List ℕ → ℕ → ℕ → HeadRead
-choiceHead s n at = readThen RefusedHead (listAt s 1 n at) (λ heads. GotHead (Choice heads) (heads .next))
+choiceHead s n at = readThen RefusedHead (listAt s 1 n at) (λ heads. GotHead (Choice heads) (heads .next) (heads .next))
 
 -- the bound after a head
 unfoldable pub boundHead : List ℕ → Bool → Atom → ℕ → HeadRead
 boundHead s weighs head at =
-    readThen RefusedHead (numberAt s at) (λ bound. GotHead (bounded weighs head (bound .value)) (bound .next))
+    readThen RefusedHead (numberAt s at) (λ bound. GotHead (bounded weighs head (bound .value)) at (bound .next))
 
 -- the head of a kind with a single head, and the bound where the kind has one
 unfoldable pub singleHead : List ℕ → ℕ → ℕ → ℕ → HeadRead
 singleHead s n kind at =
     readThen RefusedHead (numberAt s at)
     (λ number. atomThen (RefusedHead (refusal 6 at)) (checkedAtom n (number .value))
-    (λ head. pick (eqb kind (kindNumber basic)) (GotHead (Basic head) (number .next))
+    (λ head. pick (eqb kind (kindNumber basic)) (GotHead (Basic head) (number .next) (number .next))
     (boundHead s (eqb kind (kindNumber weight)) head (number .next))))
 
 -- the number of a kind, and its head part
@@ -44,7 +44,7 @@ headAt s n at =
     (pick (eqb (kind .value) (kindNumber weight)) (singleHead s n (kind .value) (kind .next))
     (RefusedHead (refusal 5 at))))))
 
--- the body after a head part that was read; a refusal is handed up
+-- the body after a head part that was read, unless the rule's need is above the sum of its weights; a refusal is handed up
 unfoldable pub bodyAfter : List ℕ → ℕ → HeadRead → RuleRead
-bodyAfter s n (GotHead kind next) = bodyAt s n kind next
+bodyAfter s n (GotHead kind bound next) = unlessDead s bound (bodyAt s n kind next)
 bodyAfter s n (RefusedHead why) = RefusedRule why

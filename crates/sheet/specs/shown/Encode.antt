@@ -1,13 +1,15 @@
 -- The bytes of a sheet, and which sheets can be written: "In order: edition (1); atom count n (0 to 512); rule count (0 to 2,048); the
 -- rules; the compute-in list; the compute-out list; nothing more." "A rule is one of four kinds, each with its own head part: 1 basic:
 -- head, body; 2 constraint: head, bound, body; 3 choice: head list (count 1 to n, strictly increasing), body; 5 weight: head, bound, body,
--- then one weight (0 to 1,000,000) for each positive and then for each negative literal, in body order."
+-- then one weight (0 to 1,000,000) for each positive and then for each negative literal, in body order." A rule "whose need is above the
+-- sum of its own weights is refused".
 use Prim.Native.Nat.{ℕ, _+_, _≤_}
 use mathlib.Core.Path.{_≡_}
-use mathlib.Core.List.{List, [], _∷_, _++_, flatMap}
+use mathlib.Core.List.{List, [], _∷_, _++_, flatMap, List·Memᴰ}
 use lib.ListN.{length}
 use Rattle.rules.specs.Limits.{atomsMost, rulesMost, weightMost, numberMost}
 use Rattle.rules.specs.Rule.{Rule, Weighted, Sheet, Within, Kind, basic, constraint, choice, weight, basicRule, constraintRule, choiceRule, weightRule, atomsOf, kindNumber, weightsOf}
+use Rattle.rules.specs.Stable.{Living}
 use Rattle.numbers.specs.shown.Encode.{numberBytes, numbersBytes, listBytes, Linked, Rising}
 
 abbrev pub bodyBytes : Rule → List ℕ
@@ -25,8 +27,16 @@ kindBytes weight r =
 unfoldable pub ruleBytes : Rule → List ℕ
 ruleBytes r = kindBytes (r .kind) r
 
+-- so many bytes of a rule with a bound come before it
+abbrev pub beforeBound : Rule → ℕ
+beforeBound r = length (numberBytes (kindNumber (r .kind)) ++ numbersBytes (r .heads))
+
 abbrev pub rulesBytes : List Rule → List ℕ
 rulesBytes rs = flatMap ruleBytes rs
+
+-- the first bytes of a sheet: the edition, the counts, and so many of the rules
+abbrev pub begun : ℕ → ℕ → List Rule → List ℕ
+begun n count rs = numberBytes 1 ++ (numberBytes n ++ (numberBytes count ++ rulesBytes rs))
 
 unfoldable pub encode : Sheet → List ℕ
 encode sh =
@@ -57,11 +67,16 @@ pub data ProperRules (n : ℕ) : List Rule → Type 0 where
   noRules : ProperRules n []
   andRule : {r : Rule} {rs : List Rule} → ProperRule n r → ProperRules n rs → ProperRules n (r ∷ rs)
 
--- a sheet within the limits
+-- every need is at most the sum of its rule's weights
+abbrev pub AllLiving : List Rule → Type 0
+AllLiving rs = (r : Rule) → List·Memᴰ r rs → Living r
+
+-- a sheet within the limits, with no dead bound
 pub record WellFormed (sh : Sheet) : Type 0 where
   pub atoms : sh .atoms ≤ atomsMost
   pub count : length (sh .rules) ≤ rulesMost
   pub rules : ProperRules (sh .atoms) (sh .rules)
+  pub living : AllLiving (sh .rules)
   pub computeIn : Rising (sh .atoms) (sh .computeIn)
   pub computeOut : Rising (sh .atoms) (sh .computeOut)
 

@@ -3,13 +3,14 @@
 use super::Outcome;
 use super::parts::every_part;
 use crate::agreement::compare::Table;
-use crate::answer::Refusal;
+use crate::answer::{Answer, Refusal};
+use crate::bounds::{Known, about_the_sum};
 use crate::cases::refused_by_every_call;
-use crate::desk::{Call, Desk};
+use crate::desk::{After, Call, Desk};
 use crate::draw::Draw;
 use crate::generator::{self, Size};
 use crate::plain::reader::read_sheet;
-use crate::sheet::{Sheet, basic, bytes_of, choice, constraint, weight};
+use crate::sheet::{MOST_WEIGHT, Sheet, basic, bytes_of, choice, constraint, weight};
 
 /// All byte strings of length up to 2 and many of length 3 (all that begin
 /// with the edition); the seed is the first byte.
@@ -119,7 +120,23 @@ pub fn one_byte(desk: &Desk, seed: u64) -> Outcome {
     Ok(())
 }
 
-/// A sheet with every place where a number may stand.
+/// Bounds about the sum of their rule's weights: what check answers is known
+/// without a reader, and plain is held to it too.
+pub fn bounds(desk: &Desk, seed: u64) -> Outcome {
+    let mut draw = Draw::new("bounds", seed);
+    for Known { sheet, answer } in about_the_sum(&mut draw) {
+        let wanted = After { code: answer.code(), map: Vec::new() };
+        Table { desk: &Desk::PLAIN, sheet: &sheet }.answers(Call::Check, &[], &wanted)?;
+        match answer {
+            Answer::Refused(refusal) => refused_by_every_call(desk, &sheet, refusal)?,
+            _ => calls_on(desk, &mut draw, &sheet)?,
+        }
+    }
+    Ok(())
+}
+
+/// A sheet with every place where a number may stand, and with bounds of one
+/// to four bytes, which take weights of as much.
 fn one_of_each() -> Sheet {
     Sheet {
         atoms: 4,
@@ -128,6 +145,9 @@ fn one_of_each() -> Sheet {
             constraint(2, 1, &[3], &[4]),
             choice(&[3, 4], &[1], &[2]),
             weight(4, 3, &[(1, 2)], &[(2, 200)]),
+            weight(4, 200, &[(1, 2)], &[(2, 200)]),
+            weight(4, 20_000, &[(1, 20_000)], &[]),
+            weight(4, 3_000_000, &[(1, MOST_WEIGHT), (2, MOST_WEIGHT)], &[(3, MOST_WEIGHT)]),
         ],
         compute_in: vec![1],
         compute_out: vec![2],

@@ -2,21 +2,22 @@
 
 use super::Outcome;
 use crate::agreement::compare::Table;
-use crate::answer::Answer;
+use crate::answer::{Answer, Refusal};
 use crate::desk::{After, Call, Desk};
 use crate::draw::Draw;
 use crate::generator;
 use crate::sheet::{
-    Kind, Literal, MOST_ATOMS, MOST_BYTES, MOST_NUMBER, MOST_RULES, MOST_WEIGHT, Rule, Sheet, basic, bytes_of, choice,
+    MOST_ATOMS, MOST_BYTES, MOST_NUMBER, MOST_RULES, MOST_WEIGHT, Sheet, basic, bytes_of, choice, constraint, weight,
 };
 
 /// What stands at a limit, just below and just above it.
-pub const LIMITS: [fn(&Desk) -> Outcome; 10] = [
+pub const LIMITS: [fn(&Desk) -> Outcome; 11] = [
     wide_numbers,
     map_length,
     rule_count,
     atom_count,
     weight_and_bound,
+    greatest_bound,
     widest_margins,
     longest_bodies,
     longest_chain,
@@ -80,28 +81,45 @@ fn rule_count(desk: &Desk) -> Outcome {
     Ok(())
 }
 
+/// Two literals of one weight, and bounds up to their sum and above it.
 fn weight_and_bound(desk: &Desk) -> Outcome {
-    for weight in [0, 1, 127, 128, MOST_WEIGHT - 1, MOST_WEIGHT, MOST_WEIGHT + 1, MOST_NUMBER] {
-        for bound in [0, 1, MOST_WEIGHT, 2 * MOST_WEIGHT, MOST_NUMBER - 1, MOST_NUMBER] {
-            let literal = vec![Literal { atom: 1, weight }];
-            let rule =
-                Rule { kind: Kind::Weight, heads: vec![1], need: bound, positive: literal.clone(), negative: literal };
-            on_long_map(desk, &Sheet { atoms: 1, rules: vec![rule], ..Sheet::default() }.bytes())?;
+    for one in [0, 1, 127, 128, MOST_WEIGHT - 1, MOST_WEIGHT, MOST_WEIGHT + 1, MOST_NUMBER] {
+        for bound in [0, 1, one, 2 * one, 2 * one + 1, MOST_NUMBER - 1, MOST_NUMBER] {
+            let rules = vec![weight(1, bound, &[(1, one)], &[(1, one)])];
+            on_long_map(desk, &Sheet { atoms: 1, rules, ..Sheet::default() }.bytes())?;
         }
     }
     // A number above all numbers: five bytes.
     on_long_map(desk, &bytes_of(&[1, 1, 1, 2, 1, MOST_NUMBER + 1, 0, 0, 0, 0]))
 }
 
-/// The paper's extremes: 1,024,000,000 and -268,435,455.
+/// The greatest number as a bound, over weights that sum to one less, to as
+/// much, and to one more.
+fn greatest_bound(desk: &Desk) -> Outcome {
+    let accepted = Answer::Accepted { atoms: MOST_ATOMS, rules: 1 };
+    let dead = Answer::Refused(Refusal { number: 16, place: 6 });
+    for (last, answer) in [(435_454, dead), (435_455, accepted), (435_456, accepted)] {
+        let positive = (1..=200).map(|atom| (atom, MOST_WEIGHT)).collect::<Vec<_>>();
+        let mut negative = (1..=68).map(|atom| (atom, MOST_WEIGHT)).collect::<Vec<_>>();
+        negative.push((MOST_ATOMS, last));
+        let rules = vec![weight(1, MOST_NUMBER, &positive, &negative)];
+        let sheet = Sheet { atoms: MOST_ATOMS, rules, ..Sheet::default() }.bytes();
+        let wanted = After { code: answer.code(), map: Vec::new() };
+        Table { desk, sheet: &sheet }.answers(Call::Check, &[], &wanted)?;
+        on_long_map(desk, &sheet)?;
+    }
+    Ok(())
+}
+
+/// The paper's extremes: 1,024,000,000 with nothing decided and nothing
+/// needed, and -268,435,455 with the greatest bound and every literal false.
 fn widest_margins(desk: &Desk) -> Outcome {
-    let all = (1..=MOST_ATOMS).map(|atom| Literal { atom, weight: MOST_WEIGHT }).collect::<Vec<_>>();
-    let widest = Rule { kind: Kind::Weight, heads: vec![1], need: 0, positive: all.clone(), negative: all };
-    let lowest = Rule { kind: Kind::Constraint, need: MOST_NUMBER, ..basic(1, &[], &[]) };
-    let sheet = Sheet { atoms: MOST_ATOMS, rules: vec![widest, lowest], ..Sheet::default() }.bytes();
+    let all = (1..=MOST_ATOMS).map(|atom| (atom, MOST_WEIGHT)).collect::<Vec<_>>();
+    let rules = vec![weight(1, 0, &all, &all), weight(1, MOST_NUMBER, &all, &[])];
+    let sheet = Sheet { atoms: MOST_ATOMS, rules, ..Sheet::default() }.bytes();
     let table = Table { desk, sheet: &sheet };
-    let map = vec![0; MOST_ATOMS];
-    for (rule, margin) in [(1, 1_024_000_000), (2, -268_435_455)] {
+    for (rule, side, margin) in [(1, 0, 1_024_000_000), (2, 2, -268_435_455)] {
+        let map = vec![side; MOST_ATOMS];
         let wanted = After { code: Answer::Margin(margin).code(), map: map.clone() };
         table.answers(Call::Margin { rule }, &map, &wanted)?;
     }
@@ -129,11 +147,14 @@ fn longest_bodies(desk: &Desk) -> Outcome {
         basic(1, &all, &all),
         choice(&all, &all[1..], &[]),
         choice(&all, &[], &[]),
-        Rule { kind: Kind::Constraint, need: 512, ..basic(1, &all, &all) },
-        Rule { kind: Kind::Constraint, need: 513, ..basic(1, &all, &all) },
+        constraint(1, 512, &all, &all),
+        constraint(1, 513, &all, &all),
+        constraint(1, 1024, &all, &all),
     ];
     let sheet = Sheet { atoms: MOST_ATOMS, rules: kinds.to_vec(), compute_in: all.clone(), compute_out: vec![] };
     on_long_map(desk, &sheet.bytes())?;
+    let dead = [&kinds[..], &[constraint(1, 1025, &all, &all)]].concat();
+    on_long_map(desk, &Sheet { rules: dead, ..sheet.clone() }.bytes())?;
     on_long_map(desk, &Sheet { compute_in: vec![], compute_out: all, ..sheet }.bytes())
 }
 

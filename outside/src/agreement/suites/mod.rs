@@ -8,7 +8,7 @@ mod parts;
 
 use super::compare::Disagreement;
 use crate::desk::Desk;
-use calls::{any_bytes, damaged, large, long_numbers, one_byte, short_strings, well_formed};
+use calls::{any_bytes, bounds, damaged, large, long_numbers, one_byte, short_strings, well_formed};
 use definitions::{closed_maps, subsets};
 use limits::{LIMITS, limits};
 use orders::{pin_walks, shuffled};
@@ -28,13 +28,14 @@ pub struct Suite {
 pub type Outcome = Result<(), Disagreement>;
 
 /// All suites.
-pub const SUITES: [Suite; 12] = [
+pub const SUITES: [Suite; 13] = [
     Suite { name: "short strings", seeds: 256, is_complete: true, run: short_strings },
     Suite { name: "any bytes", seeds: 60_000, is_complete: false, run: any_bytes },
     Suite { name: "well formed", seeds: 30_000, is_complete: false, run: well_formed },
     Suite { name: "damaged", seeds: 40_000, is_complete: false, run: damaged },
     Suite { name: "long numbers", seeds: 200, is_complete: false, run: long_numbers },
     Suite { name: "one byte", seeds: 200, is_complete: false, run: one_byte },
+    Suite { name: "bounds", seeds: 1_000, is_complete: false, run: bounds },
     Suite { name: "large", seeds: 120, is_complete: false, run: large },
     Suite { name: "limits", seeds: LIMITS.len() as u64, is_complete: true, run: limits },
     Suite { name: "subsets", seeds: 5_000, is_complete: false, run: subsets },

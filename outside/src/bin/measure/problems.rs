@@ -113,7 +113,11 @@ fn mixed_rule(draw: &mut Draw, turn: usize, atoms: &RangeInclusive<usize>, most:
         0 => basic(heads[0], &positive, &negative),
         1 => constraint(heads[0], bound, &positive, &negative),
         2 => choice(&heads, &positive, &negative),
-        _ => weight(heads[0], bound, &weighed(&positive), &weighed(&negative)),
+        _ => {
+            let rule = weight(heads[0], bound, &weighed(&positive), &weighed(&negative));
+            // A few of the bodies weigh less than half their length.
+            Rule { need: bound.min(rule.sum()), ..rule }
+        }
     }
 }
 

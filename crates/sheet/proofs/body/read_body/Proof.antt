@@ -1,12 +1,9 @@
--- `read_body` meets its contract: two lists and then the weights. The body's length fits, since each count is a number that was read.
-use mathlib.Core.Path.{_∙_, sym}
-use native.Mathlib.Omega.{arith}
+-- `read_body` meets its contract: two lists, and then the weights. Each list is no longer than a number that was read.
+use mathlib.Core.Path.{sym, _∙_}
 use borrow.Author.Needs.{needs}
-use Rattle.rules.specs.Limits.{numberMost}
 use Rattle.numbers.proofs.lists.Most.{list-most}
-use Rattle.numbers.proofs.Answer.{ways}
 use Rattle.sheet.specs.Body.{bodyAt}
-use Rattle.sheet.proofs.body.Laws.{weighed-by}
+use Rattle.sheet.proofs.body.Dead.{dead-got, dead-handed}
 use Rattle.sheet.proofs.body.read_body.Statement.{statement}
 use Rattle.sheet.proofs.body.read_body.Tie as tie
 
@@ -21,7 +18,7 @@ enum-known-why c = search needs
 
 returns : tie.Need-returns
 unfolding bodyAt
-returns c = search ways depth 16
+returns c = search (dead-got, dead-handed, needs) depth 16
 
 read-list-requires-2 : tie.Need-read-list-requires-2
 read-list-requires-2 c κs = search needs
@@ -34,28 +31,20 @@ enum-known-why-2 c = search needs
 
 returns-2 : tie.Need-returns-2
 unfolding bodyAt
-returns-2 c = search ways depth 16
-
-add-need : tie.Need-add-need
-unfolding numberMost
-add-need c =
-    let second = c .before .before .before in
-    let first = second .before .before .before .before in
-    omega (
-      arith,
-      list-most _ 0 _ _ _ (sym (first .before .before .read-list .ensures) ∙ first .list .given .1),
-      list-most _ 0 _ _ _ (sym (second .before .before .read-list2 .ensures) ∙ second .list2 .given .1),
-    )
-
-need-requires : tie.Need-need-requires
-need-requires c κs = search needs
+returns-2 c = search (dead-got, dead-handed, needs) depth 16
 
 read-weighed-requires : tie.Need-read-weighed-requires
-read-weighed-requires c κs = search needs
+read-weighed-requires c κs =
+    let second = c .before .before .before in
+    let list = second .before .before in
+    let first = list .before .before in (
+      list-most _ 0 _ _ _ (sym (first .read-list .ensures) ∙ list .list .given .1),
+      list-most _ 0 _ _ _ (sym (second .read-list2 .ensures) ∙ c .before .list2 .given .1),
+    )
 
 returns-3 : tie.Need-returns-3
 unfolding bodyAt
-returns-3 c = search (weighed-by, ways) depth 16
+returns-3 c = search (dead-got, dead-handed, needs) depth 16
 
 pub read-body-spec : {M : Type 1} → statement M
 read-body-spec =
@@ -69,7 +58,5 @@ read-body-spec =
     enum-known-list-2
     enum-known-why-2
     returns-2
-    add-need
-    need-requires
     read-weighed-requires
     returns-3)

@@ -17,7 +17,9 @@ enum-known-why : tie.Need-enum-known-why
 enum-known-why c = search needs
 
 returns : tie.Need-returns
-returns c = search (after-head, needs)
+returns c =
+    let kind = c .before .before in
+    after-head _ _ _ _ _ (kind .before .before .read-head .ensures) _ _ _ (kind .kind .given .1) (c .read-body .ensures)
 
 returns-2 : tie.Need-returns-2
 returns-2 c = search (no-head, needs)
