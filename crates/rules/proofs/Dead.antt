@@ -21,10 +21,10 @@ value-most r p q = omega (arith, gain-most p (r .pos), gain-most q (r .neg))
 pub dead-never : (r : Rule) → Dead r → (S C : Set) → Holds r S C → ⊥
 dead-never r dead S C holds = omega (arith, value-most r C (outside S))
 
-abbrev pub nothing : Set
-nothing a = false
+abbrev pub noAtoms : Set
+noAtoms a = false
 
-pub living-holds : (r : Rule) → Living r → Holds r nothing everything
+pub living-holds : (r : Rule) → Living r → Holds r noAtoms everything
 living-holds r living = living
 
 -- weights of 1, added up

@@ -18,7 +18,7 @@ use Rattle.numbers.proofs.Answer.{got}
 use Rattle.numbers.proofs.lists.Numbers.{numbers-count}
 use Rattle.sheet.specs.Body.{weightsAt, weightsDue, needFor, weighedAt, unlessAbove, unlessDead}
 use Rattle.sheet.specs.RuleMeaning.{paired, ruleBy, ruleMeant}
-use Rattle.sheet.specs.inner.Sums.{total, sumAt, weighed}
+use Rattle.sheet.specs.inner.Sums.{sumOf, sumAt, weighed}
 use Rattle.sheet.specs.inner.Unweighed.{isPlain, unweighed}
 use Rattle.sheet.specs.declared.SheetKind.{SheetKind}
 use Rattle.sheet.specs.declared.SheetKind.the-variants.{Basic, Constraint, Choice, Weight}
@@ -30,7 +30,7 @@ use Rattle.sheet.proofs.body.Sums.{SumRan, sum-ran, sum-refused}
 use Rattle.sheet.proofs.body.Dead.{no-two, dead-got, dead-handed, plain-weighs}
 
 -- literals that are weighed weigh what their weights add up to
-paired-sum : (xs ws : List ℕ) → length xs ≡ length ws → gain everything (paired xs ws) ≡ total ws
+paired-sum : (xs ws : List ℕ) → length xs ≡ length ws → gain everything (paired xs ws) ≡ sumOf ws
 unfolding paired tally
 paired-sum [] [] e = refl
 paired-sum [] (w ∷ ws) e = absurd (omega arith)
@@ -125,10 +125,10 @@ module _ (s : List ℕ) (bound : ℕ) (positive negated : Span) where
           where
             one :
                 (atoms weights : Span) (at : ℕ) → weights .first ≡ at
-                → total (numbersFrom (atoms .value) s at)
+                → sumOf (numbersFrom (atoms .value) s at)
                 ≡ gain everything (paired (numbersOf s atoms) (numbersFrom (atoms .value) s (weights .first)))
             one atoms weights at f =
-                ap (λ (k : ℕ). total (numbersFrom (atoms .value) s k)) (sym f)
+                ap (λ (k : ℕ). sumOf (numbersFrom (atoms .value) s k)) (sym f)
                 ∙ sym
                 (paired-sum (numbersOf s atoms) (numbersFrom (atoms .value) s (weights .first))
                 (numbers-count s (atoms .value) (atoms .first) ∙ sym (numbers-count s (atoms .value) (weights .first))))

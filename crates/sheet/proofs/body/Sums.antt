@@ -23,26 +23,26 @@ use Rattle.numbers.proofs.lists.Most.{run-keeps}
 use Rattle.numbers.proofs.lists.Numbers.{numbers-over, numbers-turn}
 use Rattle.numbers.proofs.short.Laws.{lesser-is, past-few, past-there, byte-read, none-ahead}
 use Rattle.sheet.specs.Body.{weightAt, weightsAt}
-use Rattle.sheet.specs.inner.Sums.{total, sumAt, AddedUp, AddedAhead}
+use Rattle.sheet.specs.inner.Sums.{sumOf, sumAt, AddedUp, AddedAhead}
 use Rattle.sheet.proofs.body.Laws.{weight-ahead}
 
-total-most : (s : List ℕ) (count at : ℕ) → total (numbersFrom count s at) ≤ count * numberMost
+numbers-sum-most : (s : List ℕ) (count at : ℕ) → sumOf (numbersFrom count s at) ≤ count * numberMost
 unfolding tally numbersFrom
-total-most s zero at = omega arith
-total-most s (suc left) at = omega (arith, taken-most s at, total-most s left (takenAt s at .next))
+numbers-sum-most s zero at = omega arith
+numbers-sum-most s (suc left) at = omega (arith, taken-most s at, numbers-sum-most s left (takenAt s at .next))
 
 module _ (s : List ℕ) (before count first : ℕ) where
   pub added-none : AddedUp s before count first (first - first) before first
   added-none =
       let z : count - (first - first) ≡ count = omega arith in
-      let m = ap (λ (k : ℕ). total (numbersFrom k s first)) z in
+      let m = ap (λ (k : ℕ). sumOf (numbersFrom k s first)) z in
       omega (arith, m)
 
   module _ (passed sum at : ℕ) (a : AddedUp s before count first passed sum at) where
     added-one : passed < count → (p : Span) → numberAt s at ≡ Got p → AddedUp s before count first (passed + 1) (sum + p .value) (p .next)
     unfolding tally
     added-one h p e =
-        let m = ap total (numbers-turn s count passed at h (sym (taken-read s at p e))) in
+        let m = ap sumOf (numbers-turn s count passed at h (sym (taken-read s at p e))) in
         omega (arith, m, a)
 
     pub added-weight :
@@ -52,14 +52,14 @@ module _ (s : List ℕ) (before count first : ℕ) where
     added-weight h e p g = added-one h p (limited s 0 weightMost at p (sym e ∙ g) .number)
 
     -- all of them are added up
-    pub added-all : count ≤ passed → sum ≡ before + total (numbersFrom count s first)
+    pub added-all : count ≤ passed → sum ≡ before + sumOf (numbersFrom count s first)
     unfolding tally
-    added-all h = let m = ap total (numbers-over s count passed at h) in omega (arith, m, a)
+    added-all h = let m = ap sumOf (numbers-over s count passed at h) in omega (arith, m, a)
 
     pub added-most : count ≤ numberMost → sum ≤ before + numberMost * numberMost
     added-most h =
-        let m : total (numbersFrom count s first) ≤ numberMost * numberMost =
-        le-trans (total-most s count first) (mul-le-mul-right numberMost h) in
+        let m : sumOf (numbersFrom count s first) ≤ numberMost * numberMost =
+        le-trans (numbers-sum-most s count first) (mul-le-mul-right numberMost h) in
         omega (arith, a, m)
 
 -- weights of one byte
@@ -91,23 +91,23 @@ module _ (s : List ℕ) {before count first : ℕ} where
 module _ (s : List ℕ) (before count first : ℕ) where
   pub sum-got :
       {sum at : ℕ} (p : Span) → p ≡ span sum first at → Got (span count first at) ≡ weightsAt s count first
-      → sum ≡ before + total (numbersFrom count s first) → Got p ≡ sumAt s before count first
+      → sum ≡ before + sumOf (numbersFrom count s first) → Got p ≡ sumAt s before count first
   unfolding sumAt readThen
   sum-got {at = at} p e h t =
       ap (λ (q : Span). Got q) e
       ∙ ap (λ (v : ℕ). Got (span v first at)) t
-      ∙ ap (λ (r : Read). readThen Refused r (λ ws. Got (span (before + total (numbersOf s ws)) (ws .first) (ws .next)))) h
+      ∙ ap (λ (r : Read). readThen Refused r (λ ws. Got (span (before + sumOf (numbersOf s ws)) (ws .first) (ws .next)))) h
 
   pub sum-out : (x : Read) (why : Refusal) → x ≡ weightsAt s count first → x ≡ Refused why → x ≡ sumAt s before count first
   unfolding sumAt readThen
   sum-out x why h g =
-      g ∙ ap (λ (r : Read). readThen Refused r (λ ws. Got (span (before + total (numbersOf s ws)) (ws .first) (ws .next)))) (sym g ∙ h)
+      g ∙ ap (λ (r : Read). readThen Refused r (λ ws. Got (span (before + sumOf (numbersOf s ws)) (ws .first) (ws .next)))) (sym g ∙ h)
 
   -- what a sum that was read has read
   pub record SumRan (p : Span) : Type 0 where
     pub reads : weightsAt s count first ≡ Got (span count first (p .next))
     pub firstIs : p .first ≡ first
-    pub sumIs : p .value ≡ before + total (numbersFrom count s first)
+    pub sumIs : p .value ≡ before + sumOf (numbersFrom count s first)
 
   pub sum-ran : (p : Span) → sumAt s before count first ≡ Got p → SumRan p
   unfolding sumAt weightsAt
@@ -118,20 +118,20 @@ module _ (s : List ℕ) (before count first : ℕ) where
     where
       made :
           (ws : Span) → weightsAt s count first ≡ Got ws → ws .value ≡ count → ws .first ≡ first
-          → span (before + total (numbersOf s ws)) (ws .first) (ws .next) ≡ p → SumRan p
+          → span (before + sumOf (numbersOf s ws)) (ws .first) (ws .next) ≡ p → SumRan p
       made ws h v f z =
           let n : ws .next ≡ p .next = ap (λ (q : Span). q .next) z in
           record {
             reads = h ∙ (λ j. Got (span (v j) (f j) (n j)));
             firstIs = sym (ap (λ (q : Span). q .first) z) ∙ f;
-            sumIs = sym (ap (λ (q : Span). q .value) z) ∙ ap₂ (λ (k at : ℕ). before + total (numbersFrom k s at)) v f;
+            sumIs = sym (ap (λ (q : Span). q .value) z) ∙ ap₂ (λ (k at : ℕ). before + sumOf (numbersFrom k s at)) v f;
           }
 
   pub sum-refused : (why : Refusal) → sumAt s before count first ≡ Refused why → weightsAt s count first ≡ Refused why
   unfolding sumAt readThen
   sum-refused why e = by (weightsAt s count first) e
     where
-      by : (a : Read) → readThen Refused a (λ ws. Got (span (before + total (numbersOf s ws)) (ws .first) (ws .next))) ≡ Refused why → a ≡ Refused why
+      by : (a : Read) → readThen Refused a (λ ws. Got (span (before + sumOf (numbersOf s ws)) (ws .first) (ws .next))) ≡ Refused why → a ≡ Refused why
       by (Got ws) z = let w : _≡_ {A = ℕ} 0 1 = cc in absurd (omega arith)
       by (Refused because) z = z
 
@@ -139,6 +139,6 @@ module _ (s : List ℕ) (before count first : ℕ) where
       count ≤ numberMost → {x : Read} → x ≡ sumAt s before count first → (p : Span) → x ≡ Got p
       → p .value ≤ before + numberMost * numberMost
   sum-most h e p g =
-      let m : total (numbersFrom count s first) ≤ numberMost * numberMost =
-      le-trans (total-most s count first) (mul-le-mul-right numberMost h) in
+      let m : sumOf (numbersFrom count s first) ≤ numberMost * numberMost =
+      le-trans (numbers-sum-most s count first) (mul-le-mul-right numberMost h) in
       omega (arith, sum-ran p (sym e ∙ g) .sumIs, m)

@@ -21,7 +21,7 @@ use Rattle.numbers.proofs.lists.Whole.{within-read}
 use Rattle.sheet.specs.Rule.{ruleAt, ruleStep, rulesAt}
 use Rattle.sheet.specs.Sheet.{editionAt, restAt, wholeAt, sheetRead, sheetThen}
 use Rattle.sheet.specs.Meaning.{accepted, refused, sheetMeant, sheetOf}
-use Rattle.sheet.specs.shown.Encode.{ruleBytes, rulesBytes, beforeBound, begun, ProperRule, ProperRules, noRules, andRule, AllLiving}
+use Rattle.sheet.specs.shown.Encode.{ruleBytes, rulesBytes, beforeBound, firstBytes, ProperRule, ProperRules, noRules, andRule, AllLiving}
 use Rattle.sheet.specs.declared.SheetRule.{SheetRule}
 use Rattle.sheet.specs.declared.RuleRead.the-variants.{Got as GotRule}
 use Rattle.sheet.specs.declared.SheetRead.{SheetRead}
@@ -77,8 +77,8 @@ module _ (s : List ℕ) (n : ℕ) (m : n ≤ numberMost) where
 
 module _ (n count : ℕ) (rs : List Rule) (r : Rule) (q : List ℕ) (fewAtoms : n ≤ atomsMost) (fewRules : count ≤ rulesMost) (more : length rs < count) (propers : ProperRules n rs) (living : AllLiving rs) (proper : ProperRule n r) (dead : Dead r) where
   sheet-dead :
-      (s : List ℕ) → s ≡ begun n count rs ++ (ruleBytes r ++ q) → length s ≤ bytesMost
-      → sheetRead s ≡ RefusedSheet (refusal 16 (length (begun n count rs) + beforeBound r))
+      (s : List ℕ) → s ≡ firstBytes n count rs ++ (ruleBytes r ++ q) → length s ≤ bytesMost
+      → sheetRead s ≡ RefusedSheet (refusal 16 (length (firstBytes n count rs) + beforeBound r))
   unfolding sheetRead wholeAt editionAt restAt rulesAt readThen pick numberMost
   sheet-dead s e l =
       let x : List ℕ = ruleBytes r ++ q in
@@ -98,7 +98,7 @@ module _ (n count : ℕ) (rs : List Rule) (r : Rule) (q : List ℕ) (fewAtoms : 
         length-append (numberBytes n) (numberBytes count ++ (rulesBytes rs ++ x)),
         length-append (numberBytes count) (rulesBytes rs ++ x),
       ) in
-      let place : a₃ + length (rulesBytes rs) + beforeBound r ≡ length (begun n count rs) + beforeBound r =
+      let place : a₃ + length (rulesBytes rs) + beforeBound r ≡ length (firstBytes n count rs) + beforeBound r =
       omega (
         arith,
         length-append (numberBytes 1) (numberBytes n ++ (numberBytes count ++ rulesBytes rs)),
@@ -120,9 +120,9 @@ module _ (n count : ℕ) (rs : List Rule) (r : Rule) (q : List ℕ) (fewAtoms : 
 
   -- the first dead bound of a sheet, whatever comes after its rule, is refused by 16 where it stands
   pub dead-bound-refused :
-      length (begun n count rs ++ (ruleBytes r ++ q)) ≤ bytesMost
-      → sheetOf (begun n count rs ++ (ruleBytes r ++ q)) ≡ refused (refusal 16 (length (begun n count rs) + beforeBound r))
+      length (firstBytes n count rs ++ (ruleBytes r ++ q)) ≤ bytesMost
+      → sheetOf (firstBytes n count rs ++ (ruleBytes r ++ q)) ≡ refused (refusal 16 (length (firstBytes n count rs) + beforeBound r))
   unfolding sheetOf sheetThen
   dead-bound-refused l =
-      ap (λ (c : SheetRead). sheetThen refused c (λ o. accepted (sheetMeant (begun n count rs ++ (ruleBytes r ++ q)) o)))
-      (sheet-dead (begun n count rs ++ (ruleBytes r ++ q)) refl l)
+      ap (λ (c : SheetRead). sheetThen refused c (λ o. accepted (sheetMeant (firstBytes n count rs ++ (ruleBytes r ++ q)) o)))
+      (sheet-dead (firstBytes n count rs ++ (ruleBytes r ++ q)) refl l)

@@ -13,18 +13,18 @@ use Rattle.numbers.specs.declared.Read.the-variants.{Got, Refused}
 use Rattle.sheet.specs.Body.{weightAt, weightsAt}
 use Rattle.sheet.specs.declared.Literals.{Literals}
 
-abbrev pub total : List ℕ → ℕ
-total ws = tally (λ w. true) (λ w. w) ws
+abbrev pub sumOf : List ℕ → ℕ
+sumOf ws = tally (λ w. true) (λ w. w) ws
 
 -- so many weights from a place on, with the sum of them and of those before
 unfoldable pub sumAt : List ℕ → ℕ → ℕ → ℕ → Read
 sumAt s before count at =
-    readThen Refused (weightsAt s count at) (λ ws. Got (span (before + total (numbersOf s ws)) (ws .first) (ws .next)))
+    readThen Refused (weightsAt s count at) (λ ws. Got (span (before + sumOf (numbersOf s ws)) (ws .first) (ws .next)))
 
 -- So many of these weights are added to those before, up to a place: with those that are left it is the whole sum.
 abbrev pub AddedUp : List ℕ → ℕ → ℕ → ℕ → ℕ → ℕ → ℕ → Type 0
 AddedUp s before count first passed sum at =
-    sum + total (numbersFrom (count - passed) s at) ≡ before + total (numbersFrom count s first)
+    sum + sumOf (numbersFrom (count - passed) s at) ≡ before + sumOf (numbersFrom count s first)
 
 -- The run of these weights has been read up to a place, one byte each, and they are added up.
 pub record AddedAhead (s : List ℕ) (before count first sum at : ℕ) : Type 0 where

@@ -35,8 +35,8 @@ abbrev pub rulesBytes : List Rule → List ℕ
 rulesBytes rs = flatMap ruleBytes rs
 
 -- the first bytes of a sheet: the edition, the counts, and so many of the rules
-abbrev pub begun : ℕ → ℕ → List Rule → List ℕ
-begun n count rs = numberBytes 1 ++ (numberBytes n ++ (numberBytes count ++ rulesBytes rs))
+abbrev pub firstBytes : ℕ → ℕ → List Rule → List ℕ
+firstBytes n count rs = numberBytes 1 ++ (numberBytes n ++ (numberBytes count ++ rulesBytes rs))
 
 unfoldable pub encode : Sheet → List ℕ
 encode sh =
