@@ -23,18 +23,25 @@ pub passed : (A : Type 0) (r x y : A) (b : Bool) → b ≡ false → r ≡ y →
 unfolding pick
 passed A r x y b h e = e ∙ ap (λ (t : Bool). pick t x y) (sym h)
 
--- what was answered, x, is what the definition a says there
+-- what was answered, x, is what the definition a says there, whatever f is made of it
+module _ {A B : Type 0} (f : A → B) (r : B) (up : Refusal → A) (next : Span → A) (a x : Read) (h : x ≡ a) where
+  pub got-by : (p : Span) → x ≡ Got p → r ≡ f (next p) → r ≡ f (readThen up a next)
+  unfolding readThen
+  got-by p g e = e ∙ ap (λ (t : Read). f (readThen up t next)) (sym g ∙ h)
+
+  pub handed-by : (why : Refusal) → x ≡ Refused why → r ≡ f (up why) → r ≡ f (readThen up a next)
+  unfolding readThen
+  handed-by why g e = e ∙ ap (λ (t : Read). f (readThen up t next)) (sym g ∙ h)
+
 pub got :
     (A : Type 0) (r : A) (up : Refusal → A) (next : Span → A) (a x : Read) (p : Span) → x ≡ a → x ≡ Got p → r ≡ next p
     → r ≡ readThen up a next
-unfolding readThen
-got A r up next a x p h g e = e ∙ ap (λ (t : Read). readThen up t next) (sym g ∙ h)
+got A r up next a x p h g e = got-by (λ (y : A). y) r up next a x h p g e
 
 pub handed :
     (A : Type 0) (r : A) (up : Refusal → A) (next : Span → A) (a x : Read) (why : Refusal) → x ≡ a → x ≡ Refused why
     → r ≡ up why → r ≡ readThen up a next
-unfolding readThen
-handed A r up next a x why h g e = e ∙ ap (λ (t : Read). readThen up t next) (sym g ∙ h)
+handed A r up next a x why h g e = handed-by (λ (y : A). y) r up next a x h why g e
 
 pub atom-there :
     (A : Type 0) (r other : A) (next : Atom → A) (a x : AtomOr) (atom : Atom) → x ≡ a → x ≡ Is atom → r ≡ next atom

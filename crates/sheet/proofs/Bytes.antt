@@ -78,7 +78,7 @@ rule-is r = kind-is (r .kind) r
 pub encode-bytes : (sh : Sheet) → IsBytes (encode sh)
 unfolding encode
 encode-bytes sh =
-    and-then (number-is 1)
-    (and-then (number-is (sh .atoms))
-    (and-then (number-is (length (sh .rules)))
-    (and-then (each-is ruleBytes rule-is (sh .rules)) (and-then (list-is (sh .computeIn)) (list-is (sh .computeOut))))))
+    and-then
+    (and-then (number-is 1)
+    (and-then (number-is (sh .atoms)) (and-then (number-is (length (sh .rules))) (each-is ruleBytes rule-is (sh .rules)))))
+    (and-then (list-is (sh .computeIn)) (list-is (sh .computeOut)))

@@ -121,10 +121,7 @@ impl Reader<'_> {
 
 fn weight_of_all(positive: &[Literal], negative: &[Literal]) -> u64 {
     let mut weight = 0;
-    for literal in positive {
-        weight += u64::from(literal.weight);
-    }
-    for literal in negative {
+    for literal in positive.iter().chain(negative) {
         weight += u64::from(literal.weight);
     }
     weight

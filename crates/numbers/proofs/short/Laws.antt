@@ -99,8 +99,7 @@ module _ (s : List ℕ) (n count first end most : ℕ) (e : end ≡ pastBytes s 
       subst (Ahead (atomAt s n) count first next) z
       (atom-ahead atom (at + 1) next (atom-ahead above at atom a (omega arith) g low (omega arith)) (omega arith) h up high)
 
--- the run up to the place that an answer names
-pub ahead-at :
-    {step : ℕ → ℕ → Read} {count first before at : ℕ} (p : Span) → p ≡ span before first at → Ahead step count first before at
-    → Ahead step count first (p .value) (p .next)
-ahead-at {step} {count} {first} p e a = subst (λ (q : Span). Ahead step count first (q .value) (q .next)) (sym e) a
+-- what is so of a value and a place is so of those that an answer names
+pub span-at :
+    (P : ℕ → ℕ → Type 0) {value first at : ℕ} (p : Span) → p ≡ span value first at → P value at → P (p .value) (p .next)
+span-at P p e a = subst (λ (q : Span). P (q .value) (q .next)) (sym e) a

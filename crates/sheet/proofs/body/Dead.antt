@@ -1,7 +1,7 @@
 -- What is refused by 16, and what is not. A rule that passes has a need of at most the sum of its weights; a rule of a kind without a bound
 -- always passes, since its need is the number of its literals, and each weighs 1.
 use Prim.Native.Nat.{ℕ, _+_, _≤_}
-use mathlib.Core.Path.{_≡_, refl, sym, ap, ap₂, subst, _∙_}
+use mathlib.Core.Path.{_≡_, refl, ap, ap₂, subst, _∙_}
 use mathlib.Core.Bool.{Bool, true, false, cond}
 use mathlib.Core.List.{List}
 use native.Mathlib.Omega.{arith}
@@ -17,7 +17,7 @@ use Rattle.numbers.specs.declared.Refusal.{Refusal}
 use Rattle.numbers.specs.declared.Span.{Span}
 use Rattle.numbers.specs.declared.Read.{Read}
 use Rattle.numbers.specs.declared.Read.the-variants.{Got, Refused}
-use Rattle.numbers.proofs.Answer.{from-no}
+use Rattle.numbers.proofs.Answer.{got-by, handed-by, from-no}
 use Rattle.numbers.proofs.lists.Numbers.{numbers-count}
 use Rattle.sheet.specs.Body.{needFor, bodyAt, unlessAbove, unlessDead}
 use Rattle.sheet.specs.RuleMeaning.{ruleBy, ruleMeant}
@@ -59,12 +59,11 @@ module _ (s : List ℕ) (bound : ℕ) where
   -- the test comes after what is read: a refusal on the way is handed up
   module _ (r : RuleRead) (next : Span → RuleRead) (a x : Read) (h : x ≡ a) where
     pub dead-got : (p : Span) → x ≡ Got p → r ≡ unlessDead s bound (next p) → r ≡ unlessDead s bound (readThen RefusedRule a next)
-    unfolding readThen
-    dead-got p g e = e ∙ ap (λ (t : Read). unlessDead s bound (readThen RefusedRule t next)) (sym g ∙ h)
+    dead-got p g e = got-by (unlessDead s bound) r RefusedRule next a x h p g e
 
     pub dead-handed : (why : Refusal) → x ≡ Refused why → r ≡ RefusedRule why → r ≡ unlessDead s bound (readThen RefusedRule a next)
-    unfolding readThen unlessDead
-    dead-handed why g e = e ∙ ap (λ (t : Read). unlessDead s bound (readThen RefusedRule t next)) (sym g ∙ h)
+    unfolding unlessDead
+    dead-handed why g e = handed-by (unlessDead s bound) r RefusedRule next a x h why g e
 
 -- literals without weights weigh 1 each
 pub plain-weighs :

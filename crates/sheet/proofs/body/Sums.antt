@@ -83,10 +83,6 @@ module _ (s : List ℕ) {before count first : ℕ} where
               (byte-read s at byte there w small));
         }
 
-  -- up to the place that an answer names
-  pub added-at : {sum at : ℕ} (p : Span) → p ≡ span sum first at → AddedAhead s before count first sum at → AddedAhead s before count first (p .value) (p .next)
-  added-at p e a = subst (λ (q : Span). AddedAhead s before count first (q .value) (q .next)) (sym e) a
-
 -- the answer of a run of weights, with its sum
 module _ (s : List ℕ) (before count first : ℕ) where
   pub sum-got :

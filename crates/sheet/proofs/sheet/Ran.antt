@@ -170,10 +170,12 @@ sheet-ran s o e =
       short = p .short;
       bytes = λ is.
           whole-bytes s _ (o .outs .next) (p .ends)
+          (joined
           (joined (stands-as (ap (λ (v : ℕ). numberBytes v) (p .first .1)) (number-bytes s is 0 (p .edition) (p .first .0)))
           (joined
           (stands-as (ap (λ (v : ℕ). numberBytes v) (sym (p .atomsAre))) (number-bytes s is (p .edition .next) (p .atoms) (a .number)))
           (joined
           (stands-as (ap (λ (v : ℕ). numberBytes v) (sym (k .0) ∙ sym size)) (number-bytes s is (p .atoms .next) (p .count) (c .number)))
-          (joined (stands-as (ap (λ (rs : List Rule). rulesBytes rs) same) (r .bytes is)) (joined (i .bytes is) (u .bytes is))))));
+          (stands-as (ap (λ (rs : List Rule). rulesBytes rs) same) (r .bytes is)))))
+          (joined (i .bytes is) (u .bytes is)));
     }

@@ -40,9 +40,7 @@ firstBytes n count rs = numberBytes 1 ++ (numberBytes n ++ (numberBytes count ++
 
 unfoldable pub encode : Sheet → List ℕ
 encode sh =
-    numberBytes 1
-    ++ (numberBytes (sh .atoms)
-    ++ (numberBytes (length (sh .rules)) ++ (rulesBytes (sh .rules) ++ (listBytes (sh .computeIn) ++ listBytes (sh .computeOut)))))
+    firstBytes (sh .atoms) (length (sh .rules)) (sh .rules) ++ (listBytes (sh .computeIn) ++ listBytes (sh .computeOut))
 
 pub record LightOne (before w : ℕ) : Type 0 where
   pub most : w ≤ weightMost

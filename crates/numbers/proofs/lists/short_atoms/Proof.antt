@@ -5,7 +5,7 @@ use borrow.Author.Needs.{needs}
 use denote.Ref.{now}
 use Rattle.numbers.specs.Lists.{atomAt}
 use Rattle.numbers.specs.inner.Short.{Ahead}
-use Rattle.numbers.proofs.short.Laws.{past-from, past-there, none-ahead, atoms-ahead, ahead-at}
+use Rattle.numbers.proofs.short.Laws.{past-from, past-there, none-ahead, atoms-ahead, span-at}
 use Rattle.numbers.proofs.lists.short_atoms.Statement.{statement}
 use Rattle.numbers.proofs.lists.short_atoms.Tie as tie
 
@@ -59,14 +59,14 @@ spanned-requires c κs = search needs
 
 returns : tie.Need-returns Inv-loop μ-loop
 returns c =
-    ahead-at (c .spanned .result) (c .spanned .ensures) (c .before .before .before .before .before .before .before .loop .inv .0)
+    span-at (Ahead _ _ _) (c .spanned .result) (c .spanned .ensures) (c .before .before .before .before .before .before .before .loop .inv .0)
 
 spanned-requires-2 : tie.Need-spanned-requires-2 Inv-loop μ-loop
 spanned-requires-2 c κs = search needs
 
 returns-2 : tie.Need-returns-2 Inv-loop μ-loop
 returns-2 c =
-    ahead-at (c .spanned2 .result) (c .spanned2 .ensures)
+    span-at (Ahead _ _ _) (c .spanned2 .result) (c .spanned2 .ensures)
     (c .before .before .before .before .before .before .before .before .loop .inv .0)
 
 spanned-requires-3 : tie.Need-spanned-requires-3 Inv-loop μ-loop
@@ -74,7 +74,7 @@ spanned-requires-3 c κs = search needs
 
 returns-3 : tie.Need-returns-3 Inv-loop μ-loop
 returns-3 c =
-    ahead-at (c .spanned3 .result) (c .spanned3 .ensures)
+    span-at (Ahead _ _ _) (c .spanned3 .result) (c .spanned3 .ensures)
     (c .before .before .before .before .before .before .before .before .before .loop .inv .0)
 
 add-at : tie.Need-add-at Inv-loop μ-loop
@@ -106,7 +106,7 @@ spanned-requires-4 : tie.Need-spanned-requires-4 Inv-loop μ-loop
 spanned-requires-4 c κs = search needs
 
 returns-4 : tie.Need-returns-4 Inv-loop μ-loop
-returns-4 c = ahead-at (c .spanned4 .result) (c .spanned4 .ensures) (c .before .before .loop .inv .0)
+returns-4 c = span-at (Ahead _ _ _) (c .spanned4 .result) (c .spanned4 .ensures) (c .before .before .loop .inv .0)
 
 pub short-atoms-spec : {M : Type 1} → statement M
 short-atoms-spec =

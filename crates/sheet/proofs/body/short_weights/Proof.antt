@@ -5,9 +5,9 @@ use mathlib.Core.Path.{subst}
 use native.Mathlib.Omega.{arith}
 use borrow.Author.Needs.{needs}
 use Rattle.rules.specs.Limits.{weightMost, numberMost}
-use Rattle.numbers.proofs.short.Laws.{past-there}
+use Rattle.numbers.proofs.short.Laws.{past-there, span-at}
 use Rattle.sheet.specs.inner.Sums.{AddedAhead}
-use Rattle.sheet.proofs.body.Sums.{added-from, added-ahead, added-at, added-most}
+use Rattle.sheet.proofs.body.Sums.{added-from, added-ahead, added-most}
 use Rattle.sheet.proofs.body.short_weights.Statement.{statement}
 use Rattle.sheet.proofs.body.short_weights.Tie as tie
 
@@ -40,7 +40,7 @@ spanned-requires : tie.Need-spanned-requires Inv-loop μ-loop
 spanned-requires c κs = search needs
 
 returns : tie.Need-returns Inv-loop μ-loop
-returns c = added-at _ (c .spanned .result) (c .spanned .ensures) (c .before .before .before .before .before .loop .inv)
+returns c = span-at (AddedAhead _ _ _ _) (c .spanned .result) (c .spanned .ensures) (c .before .before .before .before .before .loop .inv)
 
 add-sum : tie.Need-add-sum Inv-loop μ-loop
 unfolding numberMost
@@ -68,7 +68,7 @@ spanned-requires-2 : tie.Need-spanned-requires-2 Inv-loop μ-loop
 spanned-requires-2 c κs = search needs
 
 returns-2 : tie.Need-returns-2 Inv-loop μ-loop
-returns-2 c = added-at _ (c .spanned2 .result) (c .spanned2 .ensures) (c .before .before .loop .inv)
+returns-2 c = span-at (AddedAhead _ _ _ _) (c .spanned2 .result) (c .spanned2 .ensures) (c .before .before .loop .inv)
 
 pub short-weights-spec : {M : Type 1} → statement M
 short-weights-spec =
