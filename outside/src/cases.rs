@@ -14,7 +14,8 @@ pub fn hold_all(desk: &Desk) -> Result<(), Disagreement> {
     }
     bounds(desk)?;
     refused_calls(desk)?;
-    worked().iter().try_for_each(|case| case.hold(desk))?;
+    worked().iter().chain(&repeats()).try_for_each(|case| case.hold(desk))?;
+    repeats_by_number(desk)?;
     tests_of_sets(desk)?;
     margins(desk)?;
     rule_parts(desk)
@@ -280,6 +281,7 @@ fn refused_calls(desk: &Desk) -> Result<(), Disagreement> {
 }
 
 /// A sheet and what open, some pins, and solve make of it.
+#[derive(Clone)]
 pub struct Worked {
     pub name: &'static str,
     pub sheet: Sheet,
@@ -341,8 +343,8 @@ pub fn worked() -> Vec<Worked> {
         pinned(case("two of two", 5, counted(), &[0; 5], &[1; 5]), &[(1, 1), (2, 2), (3, 2)], &[1, 2, 2, 1, 1]),
         pinned(case("weights", 4, weight_case(), &[0; 4], &[1; 4]), &[(1, 1)], &[1, 0, 1, 0]),
         case("P5", 8, p5(), &[0, 0, 1, 2, 2, 1, 2, 2], &[1, 2, 1, 2, 2, 1, 2, 2]),
-        // Two rules can give 1, so neither body is forced; a repeated rule
-        // counts twice; one rule alone forces its body.
+        // Two rules can give 1, so neither body is forced; one rule alone
+        // forces its body.
         pinned(
             case(
                 "two reasons",
@@ -353,17 +355,6 @@ pub fn worked() -> Vec<Worked> {
             ),
             &[(1, 1)],
             &[1, 0, 0],
-        ),
-        pinned(
-            case(
-                "a repeated reason",
-                2,
-                vec![choice(&[2], &[], &[]), basic(1, &[2], &[]), basic(1, &[2], &[])],
-                &[0; 2],
-                &[1; 2],
-            ),
-            &[(1, 1)],
-            &[1, 0],
         ),
         pinned(
             case("one reason", 2, vec![choice(&[2], &[], &[]), basic(1, &[2], &[])], &[0; 2], &[1; 2]),
@@ -414,6 +405,61 @@ pub fn worked() -> Vec<Worked> {
             &[2, 1, 1],
         ),
     ]
+}
+
+/// Request f: a repeated rule counts once, and a rule that differs in
+/// anything is another rule. The paper's own cases have no repeats.
+pub fn repeats() -> Vec<Worked> {
+    [short_repeats(), near_repeats()].concat()
+}
+
+/// With 2 undecided, "1 if 2" has a reach of 1 and a need of 1. It is the
+/// only rule with the head 1, however often it stands there, and 1 less 1 is
+/// below 1: 2 is in. "1 if 1 of {2}" says the same in another kind. The two
+/// are two rules, each has a reach of 1, and neither is forced; only a guess
+/// finds the model.
+fn short_repeats() -> Vec<Worked> {
+    let (one, same_meaning) = (basic(1, &[2], &[]), constraint(1, 1, &[2], &[]));
+    let (other_sign, other_atom) = (basic(1, &[], &[2]), basic(1, &[3], &[]));
+    vec![
+        asked("one copy", &[&one], &[1, 1]),
+        asked("a repeated reason", &[&one, &one], &[1, 1]),
+        asked("a reason three times", &[&same_meaning, &same_meaning, &same_meaning], &[1, 1]),
+        asked("two reasons of one meaning", &[&one, &same_meaning], &[1, 0]),
+        asked("repeats of two reasons", &[&one, &same_meaning, &same_meaning, &one], &[1, 0]),
+        asked("one sign and the other", &[&one, &other_sign, &one], &[1, 0]),
+        // With 3 out, "1 if 3" has a reach of 0, below its need of 1; what is
+        // left is "1 if 2", twice.
+        pinned(asked("repeats and another", &[&one, &other_atom, &one], &[1, 0, 0]), &[(3, 2)], &[1, 1, 2]),
+    ]
+}
+
+fn near_repeats() -> Vec<Worked> {
+    // 3 of {2 = 2, 3 = 2}: 4 less 2 is below 3, for both. With 3 = 3 it is
+    // another rule, of which 5 less 3 is below 3, and 5 less 2 is not.
+    let (twos, three) = (weight(1, 3, &[(2, 2), (3, 2)], &[]), weight(1, 3, &[(2, 2), (3, 3)], &[]));
+    // 2 of {2, 3} needs both. 1 of {2, 3} is another rule and needs neither.
+    let (both, either) = (constraint(1, 2, &[2, 3], &[]), constraint(1, 1, &[2, 3], &[]));
+    // 1, or 1 and 3, may be taken if 2 is: two rules that both need 2.
+    let (one_head, two_heads) = (choice(&[1], &[2], &[]), choice(&[1, 3], &[2], &[]));
+    vec![
+        asked("repeated weights", &[&twos, &twos], &[1, 1, 1]),
+        asked("the other weights alone", &[&three, &three], &[1, 0, 1]),
+        asked("two reasons but for a weight", &[&twos, &three, &twos], &[1, 0, 0]),
+        asked("a repeated need", &[&both, &both], &[1, 1, 1]),
+        asked("two reasons but for the need", &[&both, &either], &[1, 0, 0]),
+        asked("a repeated choice", &[&two_heads, &two_heads], &[1, 1, 0]),
+        asked("two reasons but for a head", &[&two_heads, &one_head], &[1, 0, 0]),
+    ]
+}
+
+/// 1 is asked for and all other atoms are free; then come the rules that
+/// give 1. The first model has all the atoms.
+fn asked(name: &'static str, reasons: &[&Rule], open: &'static [u8]) -> Worked {
+    let others = (2..=open.len()).collect::<Vec<_>>();
+    let mut rules = vec![choice(&others, &[], &[])];
+    rules.extend(reasons.iter().copied().cloned());
+    computing(case(name, open.len(), rules, open, &[1; 3][..open.len()]), &[1], &[])
 }
 
 fn case(name: &'static str, atoms: usize, rules: Vec<Rule>, open: &'static [u8], first: &'static [u8]) -> Worked {
@@ -486,6 +532,21 @@ fn margins(desk: &Desk) -> Result<(), Disagreement> {
     let last = [2, 2, 2, 0];
     table.answers(Call::Pin { atom: 3, side: 2 }, &[0, 2, 0, 0], &after(closed(&last), &last, &[]))?;
     table.answers(Call::Margin { rule: 1 }, &last, &after(Answer::Margin(0), &last, &[]))
+}
+
+/// Rules are numbered as they stand: "1 if 2" twice, and then a choice of 2.
+fn repeats_by_number(desk: &Desk) -> Result<(), Disagreement> {
+    let rules = vec![basic(1, &[2], &[]), basic(1, &[2], &[]), choice(&[2], &[], &[])];
+    let sheet = Sheet { atoms: 2, rules, ..Sheet::default() }.bytes();
+    let table = Table { desk, sheet: &sheet };
+    let map = [1, 2];
+    for (rule, kind, margin) in [(1, 1, -1), (2, 1, -1), (3, 3, 0)] {
+        table.answers(Call::Margin { rule }, &map, &after(Answer::Margin(margin), &map, &[]))?;
+        table.answers(Call::Rule { rule, part: 0, index: 0 }, &map, &after(Answer::Part(kind), &map, &[]))?;
+    }
+    table.answers(Call::Check, &map, &after(Answer::Accepted { atoms: 2, rules: 3 }, &map, &[]))?;
+    table.answers(Call::Margin { rule: 4 }, &map, &refused(13, 0, &map))?;
+    table.answers(Call::Rule { rule: 4, part: 0, index: 0 }, &map, &refused(13, 0, &map))
 }
 
 /// Every part of the weight case's rules.

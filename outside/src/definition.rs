@@ -174,12 +174,23 @@ fn rule_1_adds_nothing(sheet: &Sheet, map: &[u8]) -> bool {
         .all(|rule| rule.kind == Kind::Choice || sure(rule, map) < i64::from(rule.need) || map[rule.heads[0] - 1] == 1)
 }
 
+/// "An atom is in, a rule r of the sheet with that head has reach at or above
+/// its need, and every rule of the sheet with that head that has reach at or
+/// above its need is r."
 fn rule_2_adds_nothing(sheet: &Sheet, map: &[u8]) -> bool {
     (1..=sheet.atoms).filter(|&atom| map[atom - 1] == 1).all(|atom| {
-        let givers = sheet.rules.iter().filter(|rule| rule.heads.contains(&atom) && margin(rule, map) >= 0);
-        let givers = givers.collect::<Vec<_>>();
-        givers.len() != 1 || undecided_weights(givers[0], map).iter().all(|weight| margin(givers[0], map) - weight >= 0)
+        let givers = || sheet.rules.iter().filter(|rule| rule.heads.contains(&atom) && margin(rule, map) >= 0);
+        givers().all(|r| {
+            let needs_nothing = undecided_weights(r, map).iter().all(|weight| margin(r, map) - weight >= 0);
+            needs_nothing || !givers().all(|rule| is_same(rule, r))
+        })
     })
+}
+
+/// "Two rules are the same when kind, heads, need, body and weights are all
+/// equal."
+fn is_same(one: &Rule, other: &Rule) -> bool {
+    one.kind == other.kind && one.heads == other.heads && one.need == other.need && literals(one) == literals(other)
 }
 
 fn rule_3_adds_nothing(sheet: &Sheet, map: &[u8]) -> bool {
@@ -219,7 +230,7 @@ mod tests {
     use super::*;
     use crate::draw::Draw;
     use crate::generator::{Size, sheet};
-    use crate::sheet::{basic, choice};
+    use crate::sheet::{basic, choice, constraint, weight};
 
     #[test]
     fn the_first_set_has_every_atom_and_the_last_none() {
@@ -237,6 +248,40 @@ mod tests {
     fn a_choice_gives_either_set() {
         let free = Sheet { atoms: 1, rules: vec![choice(&[1], &[], &[])], ..Sheet::default() };
         assert_eq!(models(&free), [1, 0]);
+    }
+
+    #[test]
+    fn rules_that_differ_in_one_thing_are_not_the_same() {
+        let rule = weight(1, 1, &[(2, 1)], &[(3, 2)]);
+        let others = [
+            weight(2, 1, &[(2, 1)], &[(3, 2)]),
+            weight(1, 2, &[(2, 1)], &[(3, 2)]),
+            weight(1, 1, &[(3, 1)], &[(3, 2)]),
+            weight(1, 1, &[(2, 1)], &[(3, 1)]),
+            weight(1, 1, &[(2, 1), (3, 2)], &[]),
+            weight(1, 1, &[(2, 1)], &[]),
+        ];
+        assert!(is_same(&rule, &rule.clone()));
+        assert!(others.iter().all(|other| !is_same(&rule, other)));
+        let (counted, weighed) = (constraint(1, 1, &[2], &[]), weight(1, 1, &[(2, 1)], &[]));
+        let of_each_kind = [basic(1, &[2], &[]), counted, choice(&[1], &[2], &[]), weighed];
+        for (index, one) in of_each_kind.iter().enumerate() {
+            for (place, other) in of_each_kind.iter().enumerate() {
+                assert_eq!(is_same(one, other), index == place, "{one}; {other}");
+            }
+        }
+    }
+
+    #[test]
+    fn copies_of_the_only_reason_force_its_body_and_two_different_reasons_do_not() {
+        let free = choice(&[2], &[], &[]);
+        let sheet = |rules: Vec<Rule>| Sheet { atoms: 2, rules, ..Sheet::default() };
+        let copies = sheet(vec![basic(1, &[2], &[]), free.clone(), basic(1, &[2], &[])]);
+        assert!(!rule_2_adds_nothing(&copies, &[1, 0]));
+        assert!(rule_2_adds_nothing(&copies, &[1, 1]));
+        assert!(rule_2_adds_nothing(&copies, &[0, 0]));
+        let different = sheet(vec![basic(1, &[2], &[]), free, constraint(1, 1, &[2], &[])]);
+        assert!(rule_2_adds_nothing(&different, &[1, 0]));
     }
 
     #[test]

@@ -6,6 +6,7 @@ use crate::sheet::{
     Kind, Literal, MOST_ATOMS, MOST_BYTES, MOST_NUMBER, MOST_RULES, MOST_WEIGHT, Rule, Sheet, basic, bytes_of, choice,
     constraint, number_bytes, weight as weight_rule,
 };
+use std::iter;
 
 /// Upper ends for a sheet: atoms, rules, and the usual body length.
 #[derive(Clone, Copy, Debug)]
@@ -49,16 +50,23 @@ pub fn large_sheet(draw: &mut Draw) -> Sheet {
     let most_rules = draw.pick(&[MOST_RULES, 2047, 1500, 700]);
     let body = draw.pick(&[1, 3, 8, 40, atoms]);
     let style = Style::drawn(draw);
-    let mut sheet = Sheet { atoms, ..Sheet::default() };
-    sheet.compute_out = if draw.chance(1, 2) { draw.subset(2, atoms) } else { Vec::new() };
-    let mut bytes = sheet.bytes().len() + 2;
-    while sheet.rules.len() < most_rules {
-        let rule = if draw.chance(3, 4) { rule_upwards(draw, atoms, body) } else { rule(draw, atoms, body, style) };
-        let length = Sheet { atoms, rules: vec![rule.clone()], ..Sheet::default() }.bytes().len();
-        if bytes + length > MOST_BYTES {
+    let compute_out = if draw.chance(1, 2) { draw.subset(2, atoms) } else { Vec::new() };
+    let rules = iter::repeat_with(|| {
+        if draw.chance(3, 4) { rule_upwards(draw, atoms, body) } else { rule(draw, atoms, body, style) }
+    });
+    filled(Sheet { atoms, compute_out, ..Sheet::default() }, rules.take(most_rules))
+}
+
+/// The sheet with further rules, as many of these as it can take within its
+/// limits.
+pub fn filled(mut sheet: Sheet, rules: impl IntoIterator<Item = Rule>) -> Sheet {
+    // Another rule count takes up to three bytes more.
+    let mut bytes = sheet.bytes().len() + 3;
+    for rule in rules {
+        bytes += bytes_of(&rule.numbers()).len();
+        if sheet.rules.len() == MOST_RULES || bytes > MOST_BYTES {
             break;
         }
-        bytes += length;
         sheet.rules.push(rule);
     }
     sheet
@@ -131,16 +139,16 @@ fn bounded_about_one_byte(draw: &mut Draw, rule: Rule) -> Rule {
 
 /// How a sheet's numbers are drawn.
 #[derive(Clone, Copy)]
-struct Style {
+pub struct Style {
     most_weight: u32,
     kinds: [Kind; 4],
     /// Whether the first rule leaves some atoms free and other bodies are
     /// not empty, so that less is decided at once.
-    free: bool,
+    pub free: bool,
 }
 
 impl Style {
-    fn drawn(draw: &mut Draw) -> Style {
+    pub fn drawn(draw: &mut Draw) -> Style {
         let most_weight = draw.pick(&[1, 2, 4, 4, 9, MOST_WEIGHT]);
         let kinds = if draw.chance(1, 4) { [Kind::Basic, Kind::Basic, Kind::Basic, Kind::Choice] } else { Kind::ALL };
         Style { most_weight, kinds, free: draw.chance(2, 3) }
@@ -152,7 +160,9 @@ fn free_atoms(draw: &mut Draw, atoms: usize) -> Rule {
     choice(&draw.subset(count, atoms), &[], &[])
 }
 
-fn rule(draw: &mut Draw, atoms: usize, body: usize, style: Style) -> Rule {
+/// A rule over so many atoms, with a body of up to so many literals of each
+/// sign.
+pub fn rule(draw: &mut Draw, atoms: usize, body: usize, style: Style) -> Rule {
     let kind = draw.pick(&style.kinds);
     let heads = match kind {
         Kind::Choice => {

@@ -10,6 +10,8 @@
 //! - [`draw`], [`generator`]: seeded sheets, maps and numbers.
 //! - [`bounds`]: sheets with a bound about the sum of its rule's weights, and
 //!   what check answers to them.
+//! - [`repeats`]: sheets with repeated rules, and with rules that differ from
+//!   another in one thing only.
 //! - [`agreement`]: what two desks, or a desk and the definitions, must agree on.
 //! - [`translations`]: n-colouring and 3-SAT as sheets.
 //! - [`smodels`]: a sheet in the text form that clasp reads.
@@ -23,6 +25,7 @@ pub mod desk;
 pub mod draw;
 pub mod generator;
 pub mod plain;
+pub mod repeats;
 pub mod sheet;
 pub mod smodels;
 pub mod translations;

@@ -14,7 +14,7 @@ pub const MOST_WEIGHT: u32 = 1_000_000;
 pub const MOST_NUMBER: u32 = 268_435_455;
 
 /// The four kinds of rule; the value is the kind's number on the sheet.
-#[derive(Clone, Copy, Debug, PartialEq, Eq)]
+#[derive(Clone, Copy, Debug, PartialEq, Eq, PartialOrd, Ord)]
 pub enum Kind {
     Basic = 1,
     Constraint = 2,
@@ -33,7 +33,7 @@ impl Kind {
 
 /// An atom of a body with its weight. Whether it is negated is said by the
 /// list it stands in.
-#[derive(Clone, Copy, Debug, PartialEq, Eq)]
+#[derive(Clone, Copy, Debug, PartialEq, Eq, PartialOrd, Ord)]
 pub struct Literal {
     /// From 1 to the sheet's atom count.
     pub atom: usize,
@@ -42,8 +42,9 @@ pub struct Literal {
 }
 
 /// A rule with its need worked out: the body's length for basic and choice
-/// rules, the bound for constraint and weight rules.
-#[derive(Clone, Debug, PartialEq, Eq)]
+/// rules, the bound for constraint and weight rules. Two rules are the same
+/// when all of this is equal.
+#[derive(Clone, Debug, PartialEq, Eq, PartialOrd, Ord)]
 pub struct Rule {
     pub kind: Kind,
     /// One atom, or for a choice rule one or more.

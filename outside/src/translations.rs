@@ -76,6 +76,7 @@ pub fn satisfiability(variables: usize, clauses: &[Clause]) -> Sheet {
 mod tests {
     use super::*;
     use crate::definition;
+    use crate::plain::forcing::Program;
     use crate::plain::search::first_model;
 
     fn count_colourings(vertices: usize, colours: usize) -> usize {
@@ -93,8 +94,8 @@ mod tests {
 
     #[test]
     fn odd_rings_have_no_colouring_with_two() {
-        assert_eq!(first_model(&colouring(&ring(15), 2)), None);
-        assert!(first_model(&colouring(&ring(14), 2)).is_some());
+        assert_eq!(first_model(&Program::of(&colouring(&ring(15), 2))), None);
+        assert!(first_model(&Program::of(&colouring(&ring(14), 2))).is_some());
     }
 
     #[test]

@@ -50,4 +50,5 @@ suite_tests! {
     closed_maps: "closed maps",
     shuffled: "shuffled",
     pin_walks: "pin walks",
+    repeats: "repeats",
 }

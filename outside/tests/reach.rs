@@ -1,10 +1,16 @@
-//! The suites meet every answer that each call can give, and often.
+//! The suites meet every answer that each call can give, and often; and the
+//! suite of repeats meets what it is there for.
 
 use outside::agreement::{SUITES, hold_seeds};
 use outside::answer::{Answer, SHEET_REFUSALS};
 use outside::desk::Desk;
 use outside::for_c;
 use outside::plain;
+use outside::plain::forcing::{BothWays, Program, close, hold};
+use outside::plain::reader::read_sheet;
+use outside::plain::search::opened;
+use outside::repeats::{Near, different};
+use outside::sheet::Sheet;
 use std::collections::BTreeMap;
 use std::sync::Mutex;
 
@@ -80,5 +86,90 @@ fn every_answer_of_every_call_is_met() {
             println!("{call:6} {top:2} {times:6} times");
             assert!(times >= least, "{call} answers with the top {top} only {times} times");
         }
+    }
+}
+
+/// How often the suite of repeats met each of these.
+static REPEATS: Mutex<BTreeMap<String, u64>> = Mutex::new(BTreeMap::new());
+
+const NOTING_REPEATS: Desk =
+    Desk { open: for_c!(open open_noting_repeats), pin: for_c!(pin pin_noting_repeats), ..Desk::PLAIN };
+
+fn open_noting_repeats(s: &[u8], map: &mut [u8]) -> u64 {
+    let code = plain::desk_open(s, map);
+    if let Ok(sheet) = read_sheet(s)
+        && code >> 40 >= 32
+    {
+        note_rules(&sheet);
+        note_fuller("open", &opened(&Program::counting_repeats(&sheet)), &map[..sheet.atoms]);
+    }
+    code
+}
+
+fn pin_noting_repeats(s: &[u8], map: &mut [u8], atom: u64, side: u64) -> u64 {
+    let before = map.to_vec();
+    let code = plain::desk_pin(s, map, atom, side);
+    if let Ok(sheet) = read_sheet(s)
+        && code >> 40 >= 32
+        && before[0] != 3
+    {
+        let mut old = before[..sheet.atoms].to_vec();
+        let pinned = hold(&mut old, (atom as usize, side as u8))
+            .and_then(|()| close(&Program::counting_repeats(&sheet), &mut old));
+        note_fuller("pin", &pinned.map(|()| old), &map[..sheet.atoms]);
+    }
+    code
+}
+
+fn note(what: String) {
+    *REPEATS.lock().expect("no test fails while it holds this").entry(what).or_default() += 1;
+}
+
+/// Notes repeats, and near-repeats that can give an atom that the rule can.
+fn note_rules(sheet: &Sheet) {
+    let rules = different(&sheet.rules);
+    if rules.len() < sheet.rules.len() {
+        note("a repeat".to_string());
+    }
+    for (index, one) in rules.iter().enumerate() {
+        for other in rules[..index].iter().filter(|other| other.heads.iter().any(|head| one.heads.contains(head))) {
+            if let Some(near) = Near::between(one, other) {
+                note(format!("{near:?}"));
+            }
+        }
+    }
+}
+
+/// Notes a map that is fuller than the old counting gives. It is never less
+/// full.
+fn note_fuller(call: &str, old: &Result<Vec<u8>, BothWays>, map: &[u8]) {
+    match old {
+        Err(BothWays) => assert!(map.iter().all(|&side| side == 3), "a contradiction stays one"),
+        Ok(old) if old == map => {}
+        Ok(_) if map[0] == 3 => note(format!("{call}: a contradiction")),
+        Ok(old) => {
+            assert!(old.iter().zip(map).all(|(&old, &new)| old == 0 || old == new), "{old:?} grows to {map:?}");
+            note(format!("{call}: a fuller map"));
+        }
+    }
+}
+
+#[test]
+fn repeats_and_every_near_repeat_and_fuller_maps_are_met() {
+    let suite = SUITES.iter().find(|suite| suite.name == "repeats").expect("a suite has this name");
+    hold_seeds(&NOTING_REPEATS, suite, 0..1500).expect("plain agrees with itself");
+    let met = REPEATS.lock().expect("no test fails while it holds this");
+    let nears = Near::ALL.map(|near| (format!("{near:?}"), 100));
+    let others = [
+        ("a repeat", 1000),
+        ("open: a fuller map", 50),
+        ("pin: a fuller map", 50),
+        ("open: a contradiction", 10),
+        ("pin: a contradiction", 10),
+    ];
+    for (what, least) in nears.into_iter().chain(others.map(|(what, least)| (what.to_string(), least))) {
+        let times = met.get(&what).copied().unwrap_or(0);
+        println!("{what:22} {times:6} times");
+        assert!(times >= least, "{what} only {times} times");
     }
 }

@@ -7,15 +7,27 @@ use outside::cases;
 use outside::desk::{Desk, lent, lent_mut};
 use outside::for_c;
 use outside::plain;
-use outside::plain::meaning::{meets, sure};
+use outside::plain::forcing::{BothWays, Program, close, hold};
+use outside::plain::meaning::{meets, reach, sure};
 use outside::plain::reader::read_sheet;
-use outside::plain::search::first_model_within;
-use outside::sheet::{Kind, Rule, Sheet};
+use outside::plain::search::{first_model_within, opened};
+use outside::repeats::{Near, different};
+use outside::sheet::{Kind, Literal, Rule, Sheet};
 
 /// A wrong desk and the suites that must notice it.
 struct Wrong {
     desk: Desk,
     caught_by: &'static [&'static str],
+}
+
+/// Makes open and pin take such rules for repeats.
+macro_rules! take_for_repeats {
+    ($like:ident) => {
+        &|desk: &mut Desk| {
+            desk.open = for_c!(open open_taking::<$like>);
+            desk.pin = for_c!(pin pin_taking::<$like>);
+        }
+    };
 }
 
 fn wrong_desks() -> Vec<Wrong> {
@@ -85,9 +97,6 @@ fn wrong_desks() -> Vec<Wrong> {
         wrong("a choice forces its heads", &["well formed", "subsets", "closed maps"], &|desk| {
             desk.open = for_c!(open open_choices_as_basic);
         }),
-        wrong("repeated rules count once", &["well formed", "closed maps", "pin walks"], &|desk| {
-            desk.pin = for_c!(pin pin_without_repeats);
-        }),
         wrong("the first of two reasons forces", &["well formed", "closed maps", "pin walks"], &|desk| {
             desk.pin = for_c!(pin pin_first_reason);
         }),
@@ -130,8 +139,43 @@ fn wrong_desks() -> Vec<Wrong> {
         }),
         wrong("parts counted from 1", &["well formed", "limits"], &|desk| desk.rule = for_c!(rule rule_from_one)),
         wrong("parts above 9 refused", &["well formed", "limits"], &|desk| desk.rule = for_c!(rule rule_refusing)),
+        wrong("open counts every repeat", &["repeats", "well formed", "closed maps", "pin walks", "limits"], &|desk| {
+            desk.open = for_c!(open open_counting_repeats);
+        }),
+        wrong("pin counts every repeat", &["repeats", "well formed", "closed maps", "pin walks"], &|desk| {
+            desk.pin = for_c!(pin pin_counting_repeats);
+        }),
+        wrong("sees a repeat only after its like", &["repeats", "closed maps", "pin walks"], &|desk| {
+            desk.pin = for_c!(pin pin_comparing_neighbours);
+        }),
+        wrong("takes other weights for a repeat", &["repeats", "limits"], take_for_repeats!(WEIGHT)),
+        wrong("takes another kind for a repeat", &["repeats", "limits"], take_for_repeats!(KIND)),
+        wrong("takes another head for a repeat", &["repeats"], take_for_repeats!(HEAD)),
+        wrong("takes another need for a repeat", &["repeats"], take_for_repeats!(NEED)),
+        wrong("takes another atom for a repeat", &["repeats"], take_for_repeats!(ATOM)),
+        wrong("takes another sign for a repeat", &["repeats"], take_for_repeats!(SIGN)),
+        wrong("compares the first numbers only", &["repeats", "limits"], take_for_repeats!(FIRST_NUMBERS)),
+        wrong("check counts no repeats", &["repeats", "well formed", "limits"], &|desk| {
+            desk.check = for_c!(check check_without_repeats);
+        }),
+        wrong("margin counts no repeats", &["repeats", "well formed", "closed maps", "pin walks"], &|desk| {
+            desk.margin = for_c!(margin margin_without_repeats);
+        }),
+        wrong("rule counts no repeats", &["repeats", "well formed", "limits"], &|desk| {
+            desk.rule = for_c!(rule rule_without_repeats);
+        }),
     ]
 }
+
+/// What a wrong desk takes for a repeat: a near-repeat, by its place in
+/// [`Near::ALL`], or a rule that is equal in its first numbers.
+const WEIGHT: usize = Near::Weight as usize;
+const KIND: usize = Near::Kind as usize;
+const HEAD: usize = Near::Head as usize;
+const NEED: usize = Near::Need as usize;
+const ATOM: usize = Near::Atom as usize;
+const SIGN: usize = Near::Sign as usize;
+const FIRST_NUMBERS: usize = Near::ALL.len();
 
 fn suite(name: &str) -> &'static Suite {
     SUITES.iter().find(|suite| suite.name == name).expect("a suite has this name")
@@ -182,6 +226,23 @@ fn the_cases_of_bounds_catch_every_wrong_look_at_them() {
         "gives 16 before a later fault of the rule",
         "looks at bounds last",
         "rule takes dead bounds",
+    ];
+    named.into_iter().for_each(caught_by_the_cases);
+}
+
+#[test]
+fn the_cases_of_repeats_catch_every_wrong_count() {
+    let named = [
+        "open counts every repeat",
+        "takes other weights for a repeat",
+        "takes another kind for a repeat",
+        "takes another head for a repeat",
+        "takes another need for a repeat",
+        "takes another atom for a repeat",
+        "takes another sign for a repeat",
+        "check counts no repeats",
+        "margin counts no repeats",
+        "rule counts no repeats",
     ];
     named.into_iter().for_each(caught_by_the_cases);
 }
@@ -398,7 +459,7 @@ fn open_single_pass(s: &[u8], map: &mut [u8]) -> u64 {
 fn open_guessing(s: &[u8], map: &mut [u8]) -> u64 {
     let code = plain::desk_open(s, map);
     let Ok(sheet) = read_sheet(s) else { return code };
-    match first_model_within(&sheet, 100) {
+    match first_model_within(&Program::of(&sheet), 100) {
         Ok(Some(model)) if code >> 40 == 33 => {
             map[..sheet.atoms].copy_from_slice(&model);
             Answer::Closed { undecided: 0 }.code()
@@ -429,18 +490,6 @@ fn open_choices_as_basic(s: &[u8], map: &mut [u8]) -> u64 {
     };
     let rules = sheet.rules.iter().flat_map(as_basic).take(2048).collect();
     plain::desk_open(&Sheet { rules, ..sheet }.bytes(), map)
-}
-
-fn pin_without_repeats(s: &[u8], map: &mut [u8], atom: u64, side: u64) -> u64 {
-    let Ok(mut sheet) = read_sheet(s) else { return plain::desk_pin(s, map, atom, side) };
-    let mut once: Vec<Rule> = Vec::new();
-    for rule in sheet.rules {
-        if !once.contains(&rule) {
-            once.push(rule);
-        }
-    }
-    sheet.rules = once;
-    plain::desk_pin(&sheet.bytes(), map, atom, side)
 }
 
 /// Pins an atom in as if only the first rule with that head could give it.
@@ -568,6 +617,125 @@ fn rule_from_one(s: &[u8], rule: u64, part: u64, index: u64) -> u64 {
 fn rule_refusing(s: &[u8], rule: u64, part: u64, index: u64) -> u64 {
     let code = plain::desk_rule(s, rule, part, index);
     if part > 9 && code >> 40 == 41 { refused(13, 0) } else { code }
+}
+
+fn open_counting_repeats(s: &[u8], map: &mut [u8]) -> u64 {
+    let code = plain::desk_open(s, map);
+    match read_sheet(s) {
+        Ok(sheet) if code >> 40 >= 32 => handed(opened(&Program::counting_repeats(&sheet)), &mut map[..sheet.atoms]),
+        _ => code,
+    }
+}
+
+fn pin_counting_repeats(s: &[u8], map: &mut [u8], atom: u64, side: u64) -> u64 {
+    pin_by(s, map, (atom, side), |sheet| Program::counting_repeats(sheet))
+}
+
+/// Compares each rule with the one before it only.
+fn pin_comparing_neighbours(s: &[u8], map: &mut [u8], atom: u64, side: u64) -> u64 {
+    pin_by(s, map, (atom, side), |sheet| {
+        let mut program = Program::counting_repeats(sheet);
+        program.different.dedup();
+        program
+    })
+}
+
+/// Pins with other rules counted as different.
+fn pin_by(s: &[u8], map: &mut [u8], (atom, side): (u64, u64), program: fn(&Sheet) -> Program) -> u64 {
+    let mut after = map.to_vec();
+    let code = plain::desk_pin(s, &mut after, atom, side);
+    let Ok(sheet) = read_sheet(s) else { return code };
+    if code >> 40 < 32 || map[0] == 3 {
+        return code;
+    }
+    let mut held = map[..sheet.atoms].to_vec();
+    let pinned = hold(&mut held, (atom as usize, side as u8)).and_then(|()| close(&program(&sheet), &mut held));
+    handed(pinned.map(|()| held), &mut map[..sheet.atoms])
+}
+
+fn handed(after: Result<Vec<u8>, BothWays>, lent: &mut [u8]) -> u64 {
+    match after {
+        Ok(map) => lent.copy_from_slice(&map),
+        Err(BothWays) => lent.fill(3),
+    }
+    closed(lent)
+}
+
+fn open_taking<const LIKE: usize>(s: &[u8], map: &mut [u8]) -> u64 {
+    let code = plain::desk_open(s, map);
+    forced_further(s, map, code, is_like::<LIKE>)
+}
+
+fn pin_taking<const LIKE: usize>(s: &[u8], map: &mut [u8], atom: u64, side: u64) -> u64 {
+    let code = plain::desk_pin(s, map, atom, side);
+    forced_further(s, map, code, is_like::<LIKE>)
+}
+
+fn is_like<const LIKE: usize>(one: &Rule, other: &Rule) -> bool {
+    let first = |rule: &Rule| rule.numbers().into_iter().take(16).collect::<Vec<_>>();
+    if LIKE == FIRST_NUMBERS { first(one) == first(other) } else { Near::between(one, other) == Some(Near::ALL[LIKE]) }
+}
+
+/// Goes on forcing from a closed map with rule 2 as if such rules were the
+/// same as well.
+fn forced_further(s: &[u8], map: &mut [u8], code: u64, same: impl Fn(&Rule, &Rule) -> bool) -> u64 {
+    let Ok(sheet) = read_sheet(s) else { return code };
+    if code >> 40 != 33 {
+        return code;
+    }
+    let mut held = map[..sheet.atoms].to_vec();
+    let mut forced = || {
+        loop {
+            let further = forced_by_alike(&sheet, &held, &same);
+            if further.is_empty() {
+                return Ok(held.clone());
+            }
+            further.into_iter().try_for_each(|one| hold(&mut held, one))?;
+            close(&Program::of(&sheet), &mut held)?;
+        }
+    };
+    handed(forced(), &mut map[..sheet.atoms])
+}
+
+/// What the first reason of an atom forces where all its reasons are alike.
+fn forced_by_alike(sheet: &Sheet, map: &[u8], same: impl Fn(&Rule, &Rule) -> bool) -> Vec<(usize, u8)> {
+    for atom in (1..=sheet.atoms).filter(|&atom| map[atom - 1] == 1) {
+        let reasons = sheet.rules.iter().filter(|rule| rule.heads.contains(&atom) && meets(rule, reach(rule, map)));
+        let reasons = reasons.collect::<Vec<_>>();
+        let Some(first) = reasons.first() else { continue };
+        if reasons.iter().all(|rule| rule == first || same(rule, first)) {
+            let needed = |literal: &&Literal| {
+                map[literal.atom - 1] == 0 && !meets(first, reach(first, map) - u64::from(literal.weight))
+            };
+            let positive = first.positive.iter().filter(needed).map(|literal| (literal.atom, 1));
+            let negative = first.negative.iter().filter(needed).map(|literal| (literal.atom, 2));
+            let forced = positive.chain(negative).collect::<Vec<_>>();
+            if !forced.is_empty() {
+                return forced;
+            }
+        }
+    }
+    Vec::new()
+}
+
+/// The sheet with each of its rules once, where it is a sheet.
+fn without_repeats(s: &[u8]) -> Vec<u8> {
+    match read_sheet(s) {
+        Ok(sheet) => Sheet { rules: different(&sheet.rules), ..sheet }.bytes(),
+        Err(_) => s.to_vec(),
+    }
+}
+
+fn check_without_repeats(s: &[u8]) -> u64 {
+    plain::desk_check(&without_repeats(s))
+}
+
+fn margin_without_repeats(s: &[u8], map: &[u8], rule: u64) -> u64 {
+    plain::desk_margin(&without_repeats(s), map, rule)
+}
+
+fn rule_without_repeats(s: &[u8], rule: u64, part: u64, index: u64) -> u64 {
+    plain::desk_rule(&without_repeats(s), rule, part, index)
 }
 
 fn refused(number: u8, place: usize) -> u64 {

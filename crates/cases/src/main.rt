@@ -1,4 +1,4 @@
-// The scope paper's worked cases, run through the desk's calls; the file stdout has what they must answer, worked out by hand.
+// The worked cases of the scope paper and of the change requests, run through the desk's calls; the file stdout has what they must answer, worked out by hand.
 mod show;
 
 use desk::Checked;
@@ -124,6 +124,26 @@ fn weighed() {
     show_margin_of(sheet, &map, 2);
 }
 
+// A sheet opened, and atom 1 pinned in.
+fn show_pinned(name: &[u8], sheet: &[u8], map: &mut [u8]) {
+    say(name);
+    show_open(sheet, map);
+    show_pin(sheet, map, b"1 in", 1, 1);
+}
+
+// The only rule for an atom, once, twice, and with another rule that means the same: a repeat counts once. Its margin is that of rule 3.
+fn show_repeats() {
+    let once = b"\x01\x02\x02\x03\x01\x02\x00\x00\x01\x01\x01\x02\x00\x00\x00";
+    let twice = b"\x01\x02\x03\x03\x01\x02\x00\x00\x01\x01\x01\x02\x00\x01\x01\x01\x02\x00\x00\x00";
+    let another =
+        b"\x01\x02\x03\x03\x01\x02\x00\x00\x01\x01\x01\x02\x00\x02\x01\x01\x01\x02\x00\x00\x00";
+    let mut map = [0u8; Atom::LAST];
+    show_pinned(b"choice {2}; 1 if 2\n", once, &mut map);
+    show_pinned(b"choice {2}; 1 if 2; 1 if 2\n", twice, &mut map);
+    show_margin_of(twice, &map, 3);
+    show_pinned(b"choice {2}; 1 if 2; 1 if 1 of {2}\n", another, &mut map);
+}
+
 // Refusals 1, 2 and 15: where a number ends.
 fn show_numbers() {
     show_check(b"empty:", b"");
@@ -210,6 +230,7 @@ fn main() {
     );
     two_of_four();
     weighed();
+    show_repeats();
     show_case(
         b"P5 of a lecture by Cabalar\n",
         b"\x01\x08\x08\x01\x01\x01\x03\x01\x02\x01\x02\x00\x01\x01\x01\x03\x00\x00\x01\x04\x01\x05\x01\x07\x01\x05\x01\x04\x01\x07\x01\x06\x00\x01\x04\x01\x07\x00\x01\x03\x01\x08\x01\x07\x00\x00\x00",

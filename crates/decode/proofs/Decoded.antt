@@ -1,122 +1,175 @@
--- An accepted sheet has a byte for each head, literal and compute atom and three more for each rule, so its rules and lists find room in
--- the table; and what was written is a table of just that sheet.
-use Prim.Native.Nat.{ℕ, _+_, _≤_}
-use mathlib.Core.Path.{_≡_, sym, _∙_, ap, ap₂, subst}
-use mathlib.Core.Logic.{⊎-elim}
-use mathlib.Core.List.{List, [], _∷_, _++_, List·Memᴰ, List·Memᴰ·append-cases, List·Memᴰ·eq-of-singleton}
+-- After the rules the compute lists are written as one rule more, and the row that ends them. The rows of the rules go on standing, so the
+-- table has just the rules of the sheet, each once, and its lists.
+use Prim.Native.Nat.{ℕ, _+_, _*_, _≤_, _<_}
+use mathlib.Core.Path.{_≡_, refl, sym, _∙_, ap, ap₂, subst}
+use mathlib.Core.List.{List, [], _∷_, List·Memᴰ}
 use native.Mathlib.Omega.{arith}
-use lib.ListN.{length, length-append, length-map}
-use Rattle.rules.specs.Limits.{bytesMost, numberMost}
-use Rattle.rules.specs.Rule.{Rule, Sheet, one, atomsOf}
+use Rattle.rules.specs.Limits.{numberMost}
+use Rattle.rules.specs.Rule.{Rule, Sheet, SameSet, kindNumber, choice, noRule, atomsOf}
+use Rattle.rules.proofs.Members.{mem-index}
+use Rattle.numbers.specs.Answer.{span}
+use Rattle.numbers.specs.shown.Encode.{none}
+use Rattle.numbers.specs.declared.Span.{Span}
 use Rattle.sheet.specs.Meaning.{sheetMeant}
 use Rattle.sheet.specs.shown.Encode.{rulesSize}
 use Rattle.sheet.specs.declared.Outline.{Outline}
-use Rattle.numbers.specs.shown.Encode.{none}
 use Rattle.sheet.proofs.Sound.{Sound, each-sound, choice-sound}
 use Rattle.sheet.proofs.rule.Apart.{ones-atoms}
-use Rattle.sheet.proofs.sheet.Ran.{SheetRan, sheet-ran}
+use Rattle.sheet.proofs.sheet.Ran.{SheetParts, parts, SheetRan, sheet-ran}
 use Rattle.table.specs.inner.Words.{rowWidth, pairWidth}
-use Rattle.table.specs.inner.Rows.{rowRule, tableRules, tableSheet, Row}
-use Rattle.decode.specs.inner.Rows.{firstPair, listsRule, withRules, TableRoom}
-use Rattle.decode.specs.inner.Decode.{tableWords, allRows, Decodable, Decoded}
-use Rattle.decode.proofs.rows.Laws.{rules-long}
-use Rattle.decode.proofs.rows.Written.{RowStands, each-stands, rows-written, next-written}
+use Rattle.table.specs.inner.Rows.{rowRule, tableRules, Row}
+use Rattle.table.proofs.Rows.{rule-stands, rule-mem}
+use Rattle.decode.specs.declared.pairs.Reached.{Reached}
+use Rattle.decode.specs.declared.rows.Rows.{Rows}
+use Rattle.decode.specs.inner.Taken.{ruleOf}
+use Rattle.decode.specs.inner.Rows.{endFrom, firstPair, listsRule, withRule, withEnd, withLast, RowWritten, TableRoom, Stood, Stays, RestAsks, RestPut}
+use Rattle.decode.specs.inner.Decode.{Decodable, WritesRules, Decoded}
+use Rattle.decode.proofs.Taken.{lists-taken}
 use Rattle.decode.proofs.Laid.{written-row}
+use Rattle.decode.proofs.rows.Laws.{room-next, last-long}
+use Rattle.decode.proofs.rows.Rule.{headless}
+use Rattle.decode.proofs.rows.Written.{row-written}
+use Rattle.decode.proofs.rows.Stood.{last-row, rule-kept, stood-kept}
 
--- the pairs of some rules and of one more
-size-more : (rs : List Rule) (r : Rule) → rulesSize (rs ++ (r ∷ [])) ≡ rulesSize rs + rulesSize (r ∷ [])
-unfolding rulesSize
-size-more [] r = omega arith
-size-more (q ∷ rs) r = omega (arith, size-more rs r)
+module _
+    {s : List ℕ}
+    {o : Outline}
+    {wanted : ℕ}
+    {c : List ℕ}
+    (ready : Decodable s o c)
+    {c₁ : List ℕ}
+    (rules : Rows)
+    (wrote : WritesRules s o wanted c c₁ rules)
+  where
+    abbrev sh : Sheet
+    sh = sheetMeant s o
 
-module _ (s : List ℕ) (o : Outline) (c : List ℕ) (ready : Decodable s o c) where
-  abbrev sh : Sheet
-  sh = sheetMeant s o
+    -- where the bound of a rule would end, the lists begin
+    abbrev unbound : Span
+    unbound = span 0 (rules .next) (rules .next)
 
-  ran : SheetRan s o
-  ran = sheet-ran s o (ready .accepted)
+    abbrev lists : Rule
+    lists = ruleOf s (kindNumber choice) [] unbound
 
-  lists-size : rulesSize (listsRule sh ∷ []) ≡ length (sh .computeIn) + length (sh .computeOut)
-  unfolding rulesSize
-  lists-size = omega (arith, length-map (sh .computeIn) one, length-map (sh .computeOut) one)
+    read : SheetParts s o
+    read = parts s o (ready .accepted)
 
-  all-count : length (allRows sh) ≡ o .rules .value + 1
-  all-count = omega (arith, length-append (sh .rules) (listsRule sh ∷ []), ran .count)
+    ran : SheetRan s o
+    ran = sheet-ran s o (ready .accepted)
 
-  pub table-room : TableRoom c 0 (firstPair (o .rules .value)) (allRows sh)
-  unfolding firstPair tableWords rowWidth pairWidth bytesMost numberMost
-  table-room =
-      let size : rulesSize (allRows sh) ≡ rulesSize (sh .rules) + (length (sh .computeIn) + length (sh .computeOut)) =
-      size-more (sh .rules) (listsRule sh) ∙ ap (_+_ (rulesSize (sh .rules))) lists-size in
-      record {
-        rows = omega (arith, all-count);
-        pairs = omega (arith, ran .count, ran .far, ready .room);
-        few = omega (arith, ran .count, ran .far, ran .short);
-      }
+    lists-are : listsRule sh ≡ lists
+    unfolding sheetMeant
+    lists-are =
+        sym
+        (ap (λ (p : ℕ). ruleOf s (kindNumber choice) [] (span 0 p p)) (wrote .place)
+        ∙ lists-taken s (o .atoms) (o .rules .next) (o .ins) (o .outs) (read .fifth) (read .sixth) .rule)
 
-  lists-sound : Sound (o .atoms) (listsRule sh)
-  unfolding sheetMeant
-  lists-sound = choice-sound (o .atoms) (ran .wellFormed .atoms) [] _ _ none (ran .wellFormed .computeIn) (ran .wellFormed .computeOut)
+    room : TableRoom c₁ (rules .count) (rules .pair) (lists ∷ [])
+    room = subst (λ (r : Rule). TableRoom c₁ (rules .count) (rules .pair) (r ∷ [])) lists-are (wrote .room)
 
-  row-sound : (r : Rule) → List·Memᴰ r (allRows sh) → Sound (o .atoms) r
-  unfolding sheetMeant
-  row-sound r m =
-      ⊎-elim
-      (λ (k : List·Memᴰ r (sh .rules)). each-sound (o .atoms) (ran .wellFormed .atoms) (ran .wellFormed .rules) k)
-      (λ (k : List·Memᴰ r (listsRule sh ∷ [])).
-      subst (Sound (o .atoms)) (sym (List·Memᴰ·eq-of-singleton k)) lists-sound)
-      (List·Memᴰ·append-cases (sh .rules) m)
+    pub lists-ask : RestAsks s (kindNumber choice) unbound c₁ (rules .count) (rules .pair) (rules .pair)
+    unfolding numberMost rulesSize rowWidth pairWidth
+    lists-ask =
+        let h = room in
+        record {
+          row = omega (arith, h .rows, h .pairs);
+          order = omega arith;
+          pairs = omega (arith, h .pairs);
+          few = omega (arith, h .few);
+          kindMost = omega arith;
+          boundMost = omega arith;
+        }
 
-  module _ {d : List ℕ} (code : d ≡ withRules c 0 (firstPair (o .rules .value)) (allRows sh)) where
-    row : (i : ℕ) → i ≤ o .rules .value → Row d (o .atoms) i
+    below : rowWidth * (rules .count + 2) ≤ pairWidth * firstPair (o .rules .value)
+    unfolding rowWidth pairWidth firstPair
+    below = omega (arith, wrote .few)
+
+    -- the whole table
+    abbrev d : List ℕ
+    d = withLast c₁ (rules .count) (rules .pair) lists
+
+    stood : Stood (sh .rules) (firstPair (o .rules .value)) d (o .rules .value) (rules .count) (rules .pair)
+    stood = stood-kept lists room below (wrote .stood)
+
+    lists-row : RowWritten d (rules .count) (rules .pair) lists
+    lists-row = last-row lists room below (wrote .stood)
+
+    lists-sound : Sound (o .atoms) lists
+    unfolding sheetMeant
+    lists-sound =
+        subst (Sound (o .atoms)) lists-are
+        (choice-sound (o .atoms) (ran .wellFormed .atoms) [] _ _ none (ran .wellFormed .computeIn) (ran .wellFormed .computeOut))
+
+    row : (i : ℕ) → i < rules .count → Row d (o .atoms) i
     unfolding sheetMeant
     row i h =
-        let t : RowStands (withRules c 0 (firstPair (o .rules .value)) (allRows sh)) i (allRows sh) =
-        each-stands c 0 _ _ table-room i (omega arith) (omega (arith, all-count))
-        in
-        subst (λ (x : List ℕ). Row x (o .atoms) i) (sym code)
-        (written-row _ (o .atoms) (ran .wellFormed .atoms) i (t .place) (t .rule) (t .written) (row-sound (t .rule) (t .among)))
+        let t = stood .rows i h in
+        written-row d (o .atoms) (ran .wellFormed .atoms) i (t .place) (t .rule) (t .written)
+        (each-sound (o .atoms) (ran .wellFormed .atoms) (ran .wellFormed .rules) (t .among))
 
-    rules-are : tableRules d (o .rules .value) ≡ sh .rules
-    rules-are =
-        ap (λ (x : List ℕ). tableRules x (o .rules .value)) code
-        ∙ ap (tableRules (withRules c 0 (firstPair (o .rules .value)) (allRows sh))) (sym (ran .count))
-        ∙ rows-written c 0 _ (sh .rules) (listsRule sh ∷ []) table-room
-
-    lists-are : rowRule d (o .rules .value) ≡ listsRule sh
-    lists-are =
-        let at : o .rules .value ≡ 0 + length (sh .rules) = omega (arith, ran .count) in
-        ap (λ (x : List ℕ). rowRule x (o .rules .value)) code
-        ∙ ap (rowRule (withRules c 0 (firstPair (o .rules .value)) (allRows sh))) at
-        ∙ next-written c 0 _ (sh .rules) (listsRule sh) table-room
-
-    ins-are : atomsOf (rowRule d (o .rules .value) .pos) ≡ sh .computeIn
-    ins-are = ap (λ (r : Rule). atomsOf (r .pos)) lists-are ∙ ones-atoms (sh .computeIn)
-
-    outs-are : atomsOf (rowRule d (o .rules .value) .neg) ≡ sh .computeOut
-    outs-are = ap (λ (r : Rule). atomsOf (r .neg)) lists-are ∙ ones-atoms (sh .computeOut)
-
-    sheet-is : tableSheet d (o .atoms) (o .rules .value) ≡ sh
-    unfolding sheetMeant
-    sheet-is =
-        ap
-        (λ (rs : List Rule). made rs (atomsOf (rowRule d (o .rules .value) .pos)) (atomsOf (rowRule d (o .rules .value) .neg)))
-        rules-are
-        ∙ ap₂ (made (sh .rules)) ins-are outs-are
-      where
-        made : List Rule → List ℕ → List ℕ → Sheet
-        made rs xs ys = record { atoms = o .atoms; rules = rs; computeIn = xs; computeOut = ys }
-
-    pub decoded : Decoded s o c d
-    unfolding sheetMeant
-    decoded =
+    same-rules : SameSet (tableRules d (rules .count)) (sh .rules)
+    same-rules =
         record {
-          laid = record {
-            fewAtoms = ran .wellFormed .atoms;
-            fewRules = omega (arith, ran .count, ran .wellFormed .count);
-            rows = λ i h. row i (omega arith);
-            lists = row (o .rules .value) (omega arith);
-          };
-          sheet = sheet-is;
-          long = ap length code ∙ rules-long c 0 _ _;
+          onto =
+              λ r m.
+              let t = rule-stands d (rules .count) r m in
+              let u = stood .rows (t .row) (t .among .high) in
+              subst (λ (q : Rule). List·Memᴰ q (sh .rules)) (sym (t .same ∙ row-written (u .written))) (u .among);
+          back =
+              λ r m.
+              let t = mem-index noRule m in
+              let u = stood .all (t .0) (omega (arith, t .1, ran .count)) in
+              subst (λ (q : Rule). List·Memᴰ q (tableRules d (rules .count))) (u .same ∙ t .2) (rule-mem d (rules .count) (u .row) (u .low));
         }
+
+    listed : rowRule d (rules .count) ≡ listsRule sh
+    listed = row-written lists-row ∙ sym lists-are
+
+    stays : wanted < o .rules .value → Stays (sh .rules) d (rules .count) wanted (rules .row)
+    stays h =
+        let t = wrote .row h in
+        record { low = t .low; same = rule-kept lists room below (wrote .stood) (rules .row) (t .low) ∙ t .same }
+
+    whole : Decoded s o wanted c d (record { rules = rules .count; row = rules .row })
+    unfolding sheetMeant
+    whole =
+        record {
+          laid =
+              record {
+                fewAtoms = ran .wellFormed .atoms;
+                fewRules = omega (arith, wrote .few, ran .count, ran .wellFormed .count);
+                rows = row;
+                apart = stood .apart;
+                lists =
+                    written-row d (o .atoms) (ran .wellFormed .atoms) (rules .count) (rules .pair) lists lists-row lists-sound;
+              };
+          sheet =
+              record {
+                atoms = refl;
+                rules = same-rules;
+                computeIn = ap (λ (r : Rule). atomsOf (r .pos)) listed ∙ ones-atoms (sh .computeIn);
+                computeOut = ap (λ (r : Rule). atomsOf (r .neg)) listed ∙ ones-atoms (sh .computeOut);
+              };
+          row = stays;
+          rowMost = wrote .rowMost;
+          long = last-long c₁ (rules .count) (rules .pair) lists ∙ wrote .long;
+        }
+
+    module _ {c₂ : List ℕ} (end : Reached) (put : RestPut s (kindNumber choice) unbound c₁ (rules .count) (rules .pair) (rules .pair) c₂ end) where
+      put-rule : (c₂ ≡ withRule c₁ (rules .count) (rules .pair) lists) × (end .pair ≡ endFrom (rules .pair) lists)
+      put-rule = headless s unbound c₁ (rules .count) (rules .pair) end put
+
+      pub ending-room : TableRoom c₂ (rules .count + 1) (end .pair) []
+      ending-room =
+          subst (λ (m : ℕ). TableRoom c₂ (rules .count + 1) m []) (sym (put-rule .1))
+          (subst (λ (x : List ℕ). TableRoom x (rules .count + 1) (endFrom (rules .pair) lists) []) (sym (put-rule .0))
+          (room-next c₁ (rules .count) (rules .pair) lists [] room))
+
+      pub ended :
+          {f : List ℕ} → f ≡ withEnd c₂ (rules .count + 1) (end .pair)
+          → Decoded s o wanted c f (record { rules = rules .count; row = rules .row })
+      unfolding withLast
+      ended code =
+          subst (λ (x : List ℕ). Decoded s o wanted c x (record { rules = rules .count; row = rules .row }))
+          (sym (code ∙ ap₂ (λ (x : List ℕ) (m : ℕ). withEnd x (rules .count + 1) m) (put-rule .0) (put-rule .1)))
+          whole

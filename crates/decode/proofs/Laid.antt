@@ -18,8 +18,7 @@ use Rattle.sheet.specs.shown.Encode.{LightOne, Light}
 use Rattle.sheet.proofs.Sound.{Sound, ones-rise, ones-light}
 use Rattle.table.specs.inner.Words.{pairAtom, pairAt, pairsFrom, seg, Seg}
 use Rattle.table.specs.inner.Rows.{from, to, Row}
-use Rattle.decode.specs.inner.Rows.{positivesFrom, negativesFrom, endFrom}
-use Rattle.decode.proofs.rows.Written.{RowWritten}
+use Rattle.decode.specs.inner.Rows.{positivesFrom, negativesFrom, endFrom, RowWritten}
 
 module _ (c : List ℕ) where
   -- what holds of each number of a list that is linked so, of the pairs that have those numbers

@@ -1,4 +1,4 @@
 pub mod Taken
+pub mod Room
 pub mod Laid
 pub mod Decoded
-pub mod Ended

@@ -7,11 +7,12 @@ use mathlib.Core.List.{List, [], _∷_}
 use native.Mathlib.Omega.{arith}
 use lib.ListN.{length, length-map}
 use Rattle.rules.specs.Sum.{pick}
-use Rattle.rules.specs.Limits.{weightMost}
+use Rattle.rules.specs.Limits.{weightMost, numberMost}
 use Rattle.rules.specs.Number.{checkedAtom}
-use Rattle.rules.specs.Rule.{Rule, Weighted, Kind, basic, constraint, choice, weight, kindNumber, one, ones, choiceRule}
+use Rattle.rules.specs.Rule.{Rule, Weighted, basic, choice, kindNumber, one, ones, choiceRule}
 use Rattle.rules.specs.declared.Atom.{Atom}
 use Rattle.rules.proofs.Inside.{atom-is}
+use Rattle.rules.proofs.Same.{rule-made}
 use Rattle.numbers.specs.Answer.{span}
 use Rattle.numbers.specs.Number.{numberAt, takenAt}
 use Rattle.numbers.specs.Lists.{atomAt, inTurn, upTo, listAt, numbersFrom, numbersOf}
@@ -19,7 +20,7 @@ use Rattle.numbers.specs.declared.Span.{Span}
 use Rattle.numbers.specs.declared.Read.{Read}
 use Rattle.numbers.specs.declared.Read.the-variants.{Got, Refused}
 use Rattle.numbers.proofs.Answer.{from-read, from-atom, not-got, same-span, one-left}
-use Rattle.numbers.proofs.number.Taken.{taken-read}
+use Rattle.numbers.proofs.number.Taken.{taken-read, taken-most}
 use Rattle.numbers.proofs.number.Most.{limited}
 use Rattle.numbers.proofs.lists.Numbers.{numbers-count}
 use Rattle.numbers.proofs.lists.Most.{run-keeps, listed}
@@ -39,20 +40,16 @@ use Rattle.sheet.proofs.rule.Ran.{Cases, basicCase, boundedCase, choiceCase, ca
 use Rattle.table.specs.inner.Rows.{kindOf}
 use Rattle.decode.specs.inner.Taken.{numbersPast, listTaken, listPast, literalsTaken, literalsPast, Body, bodyOf, bodyTaken, headsTaken, headsPast, hasBound, boundTaken, needTaken, restTaken, ruleOf, kindTaken, ruleBound, ruleTaken, rulePast}
 
--- rules with the same parts are the same, and a body without weights is as long as its lists
-abbrev ruleWith : Kind → List ℕ → ℕ → List Weighted → List Weighted → Rule
-ruleWith kind heads need pos neg = record { kind = kind; heads = heads; need = need; pos = pos; neg = neg }
-
-same-parts :
-    (kind : Kind) {hs is : List ℕ} {k m : ℕ} {ps qs ns ms : List Weighted} → hs ≡ is → k ≡ m → ps ≡ qs → ns ≡ ms
-    → ruleWith kind hs k ps ns ≡ ruleWith kind is m qs ms
-same-parts kind e f g h = cc
-
+-- a body without weights is as long as its lists
 plain-length :
     {ps ns : List Weighted} (xs ys : List ℕ) → ps ≡ ones xs → ns ≡ ones ys → length ps + length ns ≡ length xs + length ys
 plain-length xs ys e f = ap₂ (λ (ps ns : List Weighted). length ps + length ns) e f ∙ ap₂ _+_ (length-map xs one) (length-map ys one)
 
 module _ (s : List ℕ) where
+  -- a number that was taken is a sheet's
+  pub number-fits : (at : ℕ) {p : Span} → p ≡ takenAt s at → p .value ≤ numberMost
+  number-fits at e = subst (λ (p : Span). p .value ≤ numberMost) (sym e) (taken-most s at)
+
   -- the place after the numbers that are left, of count, when k were passed
   pub past-over : (count k at : ℕ) → count ≤ k → numbersPast (count - k) s at ≡ at
   unfolding numbersPast
@@ -205,7 +202,7 @@ module _ (s : List ℕ) where
         record {
           kind = refl;
           rule =
-              same-parts basic (ap (λ (x : ℕ). x ∷ []) (h .1)) (plain-length (numbersOf s (r .positive .atoms)) (numbersOf s (r .negated .atoms)) (b .pos) (b .neg)) (b .pos) (b .neg)
+              rule-made refl (ap (λ (x : ℕ). x ∷ []) (h .1)) (plain-length (numbersOf s (r .positive .atoms)) (numbersOf s (r .negated .atoms)) (b .pos) (b .neg)) (b .pos) (b .neg)
               ∙ sym (ap (λ (d : SheetKind). ruleBy s d (r .positive) (r .negated)) k);
           next = b .next;
         }
@@ -221,7 +218,7 @@ module _ (s : List ℕ) where
         record {
           kind = refl;
           rule =
-              same-parts choice (l .0) (plain-length (numbersOf s (r .positive .atoms)) (numbersOf s (r .negated .atoms)) (b .pos) (b .neg)) (b .pos) (b .neg)
+              rule-made refl (l .0) (plain-length (numbersOf s (r .positive .atoms)) (numbersOf s (r .negated .atoms)) (b .pos) (b .neg)) (b .pos) (b .neg)
               ∙ sym (ap (λ (d : SheetKind). ruleBy s d (r .positive) (r .negated)) k);
           next = b .next;
         }
@@ -245,7 +242,7 @@ module _ (s : List ℕ) where
             record {
               kind = refl;
               rule =
-                  same-parts weight (ap (λ (x : ℕ). x ∷ []) f) (ap (λ (q : Span). q .value) t) (b .pos) (b .neg)
+                  rule-made refl (ap (λ (x : ℕ). x ∷ []) f) (ap (λ (q : Span). q .value) t) (b .pos) (b .neg)
                   ∙ sym (ap (λ (d : SheetKind). ruleBy s d (r .positive) (r .negated)) k);
               next = b .next;
             }
@@ -257,7 +254,7 @@ module _ (s : List ℕ) where
             record {
               kind = refl;
               rule =
-                  same-parts constraint (ap (λ (x : ℕ). x ∷ []) f) (ap (λ (q : Span). q .value) t) (b .pos) (b .neg)
+                  rule-made refl (ap (λ (x : ℕ). x ∷ []) f) (ap (λ (q : Span). q .value) t) (b .pos) (b .neg)
                   ∙ sym (ap (λ (d : SheetKind). ruleBy s d (r .positive) (r .negated)) k);
               next = b .next;
             }
@@ -297,4 +294,4 @@ module _ (s : List ℕ) where
       let e = lists n at p q hp hq false in
       let pos = ap (λ (d : Body). d .pos) e in
       let neg = ap (λ (d : Body). d .neg) e in
-      record { rule = same-parts choice refl (plain-length (numbersOf s p) (numbersOf s q) pos neg) pos neg }
+      record { rule = rule-made refl refl (plain-length (numbersOf s p) (numbersOf s q) pos neg) pos neg }

@@ -2,5 +2,5 @@ pub mod Laws
 pub mod Written
 pub mod Body
 pub mod Rule
-pub mod Left
+pub mod Stood
 pub mod Writing

@@ -3,10 +3,11 @@ ghost use Prim.Native.Nat.{_≤_};
 ghost use mathlib.Core.Path.{_≡_};
 ghost use mathlib.Core.List.{[]};
 ghost use Rattle.rules.specs.Limits.{rulesMost};
+ghost use Rattle.rules.specs.Sum.{pick};
 ghost use Rattle.rules.specs.Rule.{ones};
 ghost use Rattle.decode.specs.inner.Taken.{headsTaken, headsPast, hasBound, boundTaken, needTaken};
-ghost use Rattle.decode.specs.inner.Pairs.{PairsFit, PairsCopied};
-ghost use Rattle.decode.specs.inner.Rows.{BodyAsks, BodyPut, RestAsks, RestPut, RowAsks, RuleAsks, RulePut, TableRoom, withRow, withRules, firstPair};
+ghost use Rattle.decode.specs.inner.Pairs.{PairsFit, ListCopied};
+ghost use Rattle.decode.specs.inner.Rows.{BodyAsks, BodyPut, RestAsks, RestPut, RowAsks, RuleAsks, RulePut, TableRoom, withRow, withEnd, firstPair};
 ghost use Rattle.decode.specs.inner.Decode.{Decodable, WritesRules};
 use super::pairs::Reached;
 use super::pairs::copy_list;
@@ -15,23 +16,38 @@ use super::pairs::write_pair;
 use super::words::set_word;
 use numbers::Span;
 use numbers::take_number;
+use repeats::SLOTS;
+use repeats::blended;
+use repeats::keep;
+use repeats::mixed;
+use rules::RuleNo;
 use rules::kind::CHOICE;
 use rules::kind::CONSTRAINT;
 use rules::kind::WEIGHT;
 use sheet::Outline;
 use table::ROW;
 
-// Where a body was written: the pair of its first negated literal, and the pair after its last; and the place after it on the sheet.
+// Where a body was written: the pair of its first negated literal, and the pair after its last; the place after it on the sheet; and its
+// mark.
 pub(crate) struct BodyEnds {
     pub negatives: usize,
     pub end: usize,
     pub next: usize,
+    pub mark: usize,
 }
 
-// The heads of a rule of this kind, as pairs from j on; and the pair and the place after them.
+// How many rows rules were written in, which of them has the rule at an index, and the pair and the place after them.
+pub(crate) struct Rows {
+    pub count: usize,
+    pub row: usize,
+    pub pair: usize,
+    pub next: usize,
+}
+
+// The heads of a rule of this kind, as pairs from j on.
 fn write_heads(s: &[u8], kind: usize, at: usize, code: &mut [u32], j: usize) -> Reached
     requires { ⌜ PairsFit (now code) j (ones (headsTaken (now s) kind at)) ⌝ }
-    ensures { λ r. ⌜ PairsCopied (now (code .entry)) j (ones (headsTaken (now (s .entry)) kind at)) (now (code .exit)) (r .pair) × (r .next ≡ headsPast (now (s .entry)) kind at) ⌝ }
+    ensures { λ r. ⌜ ListCopied (now (code .entry)) j (headsTaken (now (s .entry)) kind at) (headsPast (now (s .entry)) kind at) (now (code .exit)) r ⌝ }
 {
     if kind == CHOICE {
         return copy_list(s, at, code, j);
@@ -40,6 +56,7 @@ fn write_heads(s: &[u8], kind: usize, at: usize, code: &mut [u32], j: usize) -> 
     Reached {
         pair: write_pair(code, j, head.value, 1),
         next: head.next,
+        mark: mixed(0, 0, head.value),
     }
 }
 
@@ -85,17 +102,20 @@ fn write_body(s: &[u8], weighs: bool, at: usize, code: &mut [u32], j: usize) -> 
     let end = negated.pair;
     if weighs {
         let above = copy_weights(s, negated.next, code, j, negatives);
-        let next = copy_weights(s, above, code, negatives, end);
+        let below = copy_weights(s, above.next, code, negatives, end);
+        let weights = blended(above.mark, below.mark);
         return BodyEnds {
             negatives,
             end,
-            next,
+            next: below.next,
+            mark: blended(positive.mark, blended(negated.mark, weights)),
         };
     }
     BodyEnds {
         negatives,
         end,
         next: negated.next,
+        mark: blended(positive.mark, negated.mark),
     }
 }
 
@@ -118,8 +138,7 @@ fn write_row(
     set_word(code, ROW * i + 4, negatives);
 }
 
-// What comes after the heads and the bound of a rule: its body, as pairs from j on, and then its row; and the pair and the place after
-// the rule.
+// What comes after the heads and the bound of a rule: its body, as pairs from j on, and then its row; and the mark of its need and body.
 pub(crate) fn write_rest(
     s: &[u8],
     kind: usize,
@@ -139,10 +158,11 @@ pub(crate) fn write_rest(
     Reached {
         pair: end,
         next: body.next,
+        mark: blended(due, body.mark),
     }
 }
 
-// The rule at a place, as row i and as pairs from j on; and the pair and the place after it.
+// The rule at a place, as row i and as pairs from j on.
 fn write_rule(s: &[u8], at: usize, code: &mut [u32], i: usize, j: usize) -> Reached
     requires { ⌜ RuleAsks (now s) at (now code) i j ⌝ }
     ensures { λ r. ⌜ RulePut (now (s .entry)) at (now (code .entry)) i j (now (code .exit)) r ⌝ }
@@ -150,13 +170,18 @@ fn write_rule(s: &[u8], at: usize, code: &mut [u32], i: usize, j: usize) -> Reac
     let kind = take_number(s, at);
     let heads = write_heads(s, kind.value, kind.next, code, j);
     let bound = take_bound(s, kind.value, heads.next);
-    write_rest(s, kind.value, bound, code, i, j, heads.pair)
+    let rest = write_rest(s, kind.value, bound, code, i, j, heads.pair);
+    Reached {
+        pair: rest.pair,
+        next: rest.next,
+        mark: blended(heads.mark, rest.mark),
+    }
 }
 
-// The row after the last one: where the last rule ends.
+// The row after a rule's: where the rule ends.
 pub(crate) fn end_rows(code: &mut [u32], i: usize, j: usize)
     requires { ⌜ TableRoom (now code) i j [] ⌝ }
-    ensures { λ _. ⌜ now (code .exit) ≡ withRules (now (code .entry)) i j [] ⌝ }
+    ensures { λ _. ⌜ now (code .exit) ≡ withEnd (now (code .entry)) i j ⌝ }
 {
     set_word(code, ROW * i + 2, j);
 }
@@ -169,19 +194,38 @@ fn first_pair(count: usize) -> usize
     3 * (count + 2)
 }
 
-// The rules of a sheet, as rows and as pairs; and the pair and the place after them.
-pub(crate) fn write_rules(s: &[u8], sheet: Outline, code: &mut [u32]) -> Reached
-    requires { ⌜ Decodable (now s) sheet (now code) ⌝ }
-    ensures { λ r. ⌜ WritesRules (now (s .entry)) sheet (now (code .entry)) (now (code .exit)) r ⌝ }
+fn either(test: bool, a: usize, b: usize) -> usize
+    ensures { λ r. ⌜ r ≡ pick test a b ⌝ }
 {
+    if test { a } else { b }
+}
+
+// The rules of a sheet, each once, as rows and as pairs; which row has the rule at an index; and the pair and the place after them. A rule
+// is written as the row after those that are kept, and where one of them has it already the next one is written in its place.
+pub(crate) fn write_rules(s: &[u8], sheet: Outline, wanted: usize, code: &mut [u32]) -> Rows
+    requires { ⌜ Decodable (now s) sheet (now code) ⌝ }
+    ensures { λ r. ⌜ WritesRules (now (s .entry)) sheet wanted (now (code .entry)) (now (code .exit)) r ⌝ }
+{
+    let mut slots = [0u16; SLOTS];
+    let mut links = [0u16; RuleNo::LAST];
     let rules = sheet.rules;
-    let count = rules.value;
     let mut at = rules.first;
-    let mut j = first_pair(count);
-    for i in 0..count {
-        let rule = write_rule(s, at, code, i, j);
-        j = rule.pair;
+    let mut pair = first_pair(rules.value);
+    let mut count = 0;
+    let mut row = 0;
+    for i in 0..rules.value {
+        let rule = write_rule(s, at, code, count, pair);
+        end_rows(code, count + 1, rule.pair);
+        let kept = keep(code, count as u32, rule.mark, &mut slots, &mut links) as usize;
+        row = either(i == wanted, kept, row);
+        pair = either(kept == count, rule.pair, pair);
+        count = either(kept == count, count + 1, count);
         at = rule.next;
     }
-    Reached { pair: j, next: at }
+    Rows {
+        count,
+        row,
+        pair,
+        next: at,
+    }
 }

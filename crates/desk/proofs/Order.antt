@@ -9,10 +9,10 @@ use native.Mathlib.Omega.{arith}
 use lib.ListN.{length, getD, replicate}
 use lib.Dec.{eqb}
 use Rattle.rules.specs.Sum.{pick}
-use Rattle.rules.specs.Rule.{Sheet, Shuffled}
+use Rattle.rules.specs.Rule.{Sheet, SameSet, Shuffled}
 use Rattle.rules.specs.Stable.{Set, Model}
 use Rattle.rules.specs.Map.{Map, Literal, Holding, Written, inside, side, signed, total, _⊑_, undecided}
-use Rattle.rules.specs.Forcing.{Closed, Least, Pinned, SameSet, computed}
+use Rattle.rules.specs.Forcing.{Closed, Least, Pinned, computed}
 use Rattle.rules.proofs.Fits.{Numbered}
 use Rattle.rules.proofs.Least.{least-same, contradiction-same, holding-left, holding-right, holding-append, pins-after, contradiction-after, pin-held, holding-nil}
 use Rattle.rules.proofs.Models.{loses-none, none-lost}

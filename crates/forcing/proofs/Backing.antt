@@ -9,10 +9,10 @@ use borrow.Author.Tests.{eq-eqb}
 use Rattle.rules.specs.Sum.{counted}
 use Rattle.rules.specs.Rule.{Rule, Within}
 use Rattle.rules.specs.Map.{Map, side, is, want, reach, _⊑_}
-use Rattle.rules.specs.Forcing.{Closed, supports, supporters}
+use Rattle.rules.specs.Forcing.{Closed, supports, Only}
 use Rattle.rules.proofs.Sum.{tally-mono, count-some}
 use Rattle.rules.proofs.Maps.{reach-falls, decided-within}
-use Rattle.rules.proofs.Forced.{supports-head, supports-reach, to-supports, forced-second}
+use Rattle.rules.proofs.Forced.{supports-head, supports-reach, to-supports, one-only, forced-second}
 use Rattle.table.specs.inner.Words.{pairAtom}
 use Rattle.table.specs.inner.Rows.{headsAt, positivesAt, needAt, rowRule}
 use Rattle.table.proofs.Words.{atoms-has}
@@ -21,7 +21,7 @@ use Rattle.weigh.specs.declared.Outcome.{Outcome}
 use Rattle.weigh.specs.declared.Outcome.the-variants.{Same}
 use Rattle.weigh.proofs.Bytes.{proper-map}
 use Rattle.weigh.proofs.Steps.{kept-refl, step-same, quieter}
-use Rattle.forcing.specs.inner.Support.{Counts, Backed, Lone, NotLone, TellsLone, TellsAt, BackAsks, Backs}
+use Rattle.forcing.specs.inner.Support.{supporters, Counts, Backed, Lone, NotLone, TellsLone, TellsAt, BackAsks, Backs}
 use Rattle.forcing.proofs.HeadScans.{Sofar, scan-more, scan-end}
 
 -- whether a head is in and has one rule
@@ -129,7 +129,7 @@ module _ (c : List ℕ) (n i : ℕ) (counts m : List ℕ) (asks : BackAsks c n i
             → Due P n (rowRule c i) (most - need + 1) true (side n m)
         due P b M₀ up k s l w g z =
             record {
-              forced = λ X x f. forced-second f x (lone .atom) (lone .holds) one (rowRule c i) b supp s l w z (omega arith) ∙ sym
+              forced = λ X x f. forced-second f x (lone .atom) (lone .holds) (rowRule c i) b supp only s l w z (omega arith) ∙ sym
                   (granted s);
             }
           where
@@ -144,3 +144,6 @@ module _ (c : List ℕ) (n i : ℕ) (counts m : List ℕ) (asks : BackAsks c n i
                   fewer-supporters P M₀ (side n m) (lone .atom) up,
                   count-some (supports (lone .atom) (side n m)) P (rowRule c i) b supp,
                 )
+
+            only : Only P (lone .atom) (side n m) (rowRule c i)
+            only = one-only P (lone .atom) (side n m) (rowRule c i) b supp one

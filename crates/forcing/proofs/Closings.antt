@@ -16,6 +16,7 @@ use Rattle.rules.specs.Rule.{Rule, Within}
 use Rattle.rules.specs.Map.{Map, side, _⊑_, undecided}
 use Rattle.rules.specs.Forcing.{Closed, Least}
 use Rattle.rules.specs.inner.Bytes.{MapBytes}
+use Rattle.rules.proofs.Maps.{decided-within}
 use Rattle.rules.proofs.Bytes.{side-at}
 use Rattle.table.specs.inner.Rows.{rowRule, tableRules, Laid}
 use Rattle.table.proofs.Rows.{Standing, rule-stands, rule-mem, laid-fits}
@@ -27,9 +28,10 @@ use Rattle.weigh.proofs.Steps.{kept-refl, kept-trans, forces-refl, forces-trans
 use Rattle.forcing.specs.inner.Heads.{Settled, SettlesAll}
 use Rattle.forcing.specs.inner.Support.{Counts, Backed, BacksAll}
 use Rattle.forcing.specs.inner.Ground.{ListsFounded, Drops, Unless}
-use Rattle.forcing.specs.inner.Rounds.{LowestAt, Forcing, BackedAll, FoundedAll, ClosesMap}
+use Rattle.forcing.specs.inner.Rounds.{FirstWith, LowestAt, Forcing, BackedAll, FoundedAll, ClosesMap}
 use Rattle.forcing.specs.declared.Closing.the-variants.{NoneHolds, ClosedWith}
 use Rattle.forcing.proofs.Founding.{unfounded-out}
+use Rattle.forcing.proofs.Counting.{only-once}
 
 -- the zero bytes before index i are counted
 pub record Summed (n : ℕ) (m : List ℕ) (sum i : ℕ) : Type 0 where
@@ -57,6 +59,10 @@ after-same Good n Q Q′ m m′ m″ Clash q e s t = absurd (false≢true e)
 after-same Good n Q Q′ m m′ m″ Same q e s t = step-joined Good n Q Q′ m m′ m″ Same q s (t .kept) (λ _. t)
 after-same Good n Q Q′ m m′ m″ Grew q e s t = absurd (false≢true e)
 
+-- where no byte is v no atom has that side
+no-byte : {v n : ℕ} {m : List ℕ} {i : ℕ} → FirstWith v n m i → i ≡ n → {a : ℕ} → Within n a → side n m a ≡ v → ⊥
+no-byte {v} {n} {m} first e {a} w z = first .lower (a - 1) (omega (arith, e, w .low, w .high)) (sym (side-at n m a w) ∙ z)
+
 module _ (c : List ℕ) (n count : ℕ) where
   -- the counts were those of the map where the pass began
   pub backed :
@@ -72,10 +78,12 @@ module _ (c : List ℕ) (n count : ℕ) where
   pub backed-whole : Laid c n count → (m : List ℕ) → MapBytes n m → (i : ℕ) → LowestAt n m i → i ≡ n → Forcing c n count (BackedAll c count) m m Same
   backed-whole laid m p i low e =
       step-same (Closed (tableRules c count) n) n (BackedAll c count) m p
-      (λ k _ h a _ _ _ s l b z _. undecided-none (laid-fits c n count laid .literal (rowRule c k) (rule-mem c count k h) s l b) z)
-    where
-      undecided-none : {a : ℕ} → Within n a → side n m a ≡ 0 → ⊥
-      undecided-none {a} w z = low .lower (a - 1) (omega (arith, e, w .low, w .high)) (sym (side-at n m a w) ∙ z)
+      (λ k _ h a _ _ _ s l b z _. no-byte low e (laid-fits c n count laid .literal (rowRule c k) (rule-mem c count k h) s l b) z)
+
+  -- rule 2 speaks of atoms that are in, and there is none
+  pub backed-idle : (m : List ℕ) → MapBytes n m → (i : ℕ) → FirstWith 1 n m i → i ≡ n → Forcing c n count (BackedAll c count) m m Same
+  backed-idle m p i none e =
+      step-same (Closed (tableRules c count) n) n (BackedAll c count) m p (λ k _ h a t _ _ s l b z _. no-byte none e (decided-within (proper-map n m p) true a t) t)
 
   pub dropped :
       (m m′ u : List ℕ) (r : Outcome) → ListsFounded c n count m u → Drops n u m (n + 1) m′ r
@@ -90,14 +98,14 @@ module _ (c : List ℕ) (n count : ℕ) where
 
   -- where each rule is quiet the map is closed
   all-closed :
-      (m : List ℕ) → MapBytes n m
+      Laid c n count → (m : List ℕ) → MapBytes n m
       → (Till (λ k. Settled (rowRule c k)) 0 count (side n m) × BackedAll c count (side n m)) × FoundedAll c n count (side n m)
       → Closed (tableRules c count) n (side n m)
-  all-closed m p q =
+  all-closed laid m p q =
       record {
         isMap = proper-map n m p;
         first = λ r b. settled r (rule-stands c count r b) .first;
-        second = λ a h o r b. backs r (rule-stands c count r b) a h o;
+        second = λ a h r b t o. backs r (rule-stands c count r b) a h (only-once c n count laid a (side n m) r b t o) t;
         third = λ r b. settled r (rule-stands c count r b) .third;
         fourth = q .1;
       }
@@ -115,14 +123,14 @@ module _ (c : List ℕ) (n count : ℕ) where
 
   -- a round: three passes, or the first of them that adds something
   pub round-whole :
-      (m m₁ m₂ m₃ : List ℕ) (r q o : Outcome) → MapBytes n m → isSame r ≡ true → Forcing c n count (BackedAll c count) m m₁ r
+      Laid c n count → (m m₁ m₂ m₃ : List ℕ) (r q o : Outcome) → MapBytes n m → isSame r ≡ true → Forcing c n count (BackedAll c count) m m₁ r
       → isSame q ≡ true → Forcing c n count (FoundedAll c n count) m₁ m₂ q → SettlesAll c n count m₂ m₃ o
       → Forcing c n count (Closed (tableRules c count) n) m m₃ o
   unfolding Settling
-  round-whole m m₁ m₂ m₃ r q o p er t eq u s =
+  round-whole laid m m₁ m₂ m₃ r q o p er t eq u s =
       quieter (Closed (tableRules c count) n) n (λ M. (BackedAll c count M × FoundedAll c n count M) × Settling M)
       (Closed (tableRules c count) n) m m₃ o
-      (λ x. all-closed m p ((x .1, x .0 .0), x .0 .1))
+      (λ x. all-closed laid m p ((x .1, x .0 .0), x .0 .1))
       (after-same (Closed (tableRules c count) n) n (λ M. BackedAll c count M × FoundedAll c n count M) Settling m m₂ m₃ q o eq
       (after-same (Closed (tableRules c count) n) n (BackedAll c count) (FoundedAll c n count) m m₁ m₂ r q er t u) s)
 

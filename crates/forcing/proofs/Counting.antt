@@ -1,29 +1,29 @@
 -- Each head of a rule is one atom, so a rule that can still give its heads adds one to the count of each that is in, and none
--- twice.
+-- twice. Each rule stands in one row, so where a count is not 1 there are two rules, or none.
 use Prim.Native.Nat.{ℕ, zero, suc, _+_, _-_, _≤_, _<_}
 use mathlib.Core.Path.{_≡_, refl, sym, _∙_, ap, subst}
 use mathlib.Core.Bool.{Bool, true, false, not, _&&_, _||_, and-true, and-false}
 use mathlib.Core.Logic.{⊎-elim}
-use mathlib.Core.List.{List}
+use mathlib.Core.List.{List, List·Memᴰ}
 use native.Mathlib.Omega.{arith}
-use lib.Dec.{T, eqb}
+use lib.Dec.{T, T-not, eqb}
 use lib.ListN.{length, set}
 use borrow.Author.Tests.{eq-eqb, ne-eqb, le-leb}
 use Rattle.rules.specs.Limits.{rulesMost}
 use Rattle.rules.specs.Sum.{counted, tally, has}
-use Rattle.rules.specs.Rule.{Within}
+use Rattle.rules.specs.Rule.{Rule, Within}
 use Rattle.rules.specs.Map.{Map, side, is, reach}
-use Rattle.rules.specs.Forcing.{supports, supporters}
+use Rattle.rules.specs.Forcing.{supports, Only}
 use Rattle.rules.proofs.Tests.{eq-T, T-true, T-false, T-same, and-T, T-and-left, T-and-right, decided, T-eq, T-ne}
-use Rattle.rules.proofs.Sum.{counted-most}
+use Rattle.rules.proofs.Sum.{counted-most, count-some}
 use Rattle.rules.proofs.Forced.{supports-head, supports-reach}
 use Rattle.rules.proofs.Bytes.{written-same, written-other}
 use Rattle.table.specs.inner.Words.{pairAtom, segAtoms}
-use Rattle.table.specs.inner.Rows.{headsAt, positivesAt, needAt, rowRule, rowRules, tableRules, Row}
+use Rattle.table.specs.inner.Rows.{headsAt, positivesAt, needAt, rowRule, rowRules, tableRules, Row, Laid}
 use Rattle.table.proofs.Words.{AtomFound, atoms-listed, has-done, has-next}
-use Rattle.table.proofs.Rows.{heads-apart, rules-done, rows-next}
+use Rattle.table.proofs.Rows.{Standing, rule-stands, rule-mem, heads-apart, rules-done, rows-next}
 use Rattle.weigh.proofs.Bytes.{equal?}
-use Rattle.forcing.specs.inner.Support.{Counts, Small, Adds, Stirs}
+use Rattle.forcing.specs.inner.Support.{supporters, Counts, Small, Adds, Stirs}
 
 -- the rules before row i are counted
 pub record Counting (c : List ℕ) (n count : ℕ) (M : Map) (i : ℕ) (counts : List ℕ) : Type 0 where
@@ -289,3 +289,51 @@ module _ (c : List ℕ) (n count : ℕ) (M : Map) where
       none : (b : Bool) → counted b 0 ≡ 0
       none true = refl
       none false = refl
+
+-- each rule stands in one row, so where all that can give an atom are one rule they are one row
+module _ (c : List ℕ) (a : ℕ) (M : Map) where
+  none-count :
+      (k i : ℕ) → ((x : ℕ) → i ≤ x → x < i + k → T (supports a M (rowRule c x)) → ⊥) → supporters a M (rowRules c k i) ≡ 0
+  unfolding rowRules tally
+  none-count zero i none = refl
+  none-count (suc k) i none =
+      let first : counted (supports a M (rowRule c i)) 1 ≡ 0 =
+      ap (λ (b : Bool). counted b 1) (T-false (supports a M (rowRule c i)) (none i (omega arith) (omega arith))) in
+      omega (arith, none-count k (suc i) (λ x low high. none x (omega arith) (omega arith)))
+
+  one-count :
+      (k i row : ℕ) → ((x : ℕ) → i ≤ x → x < i + k → T (supports a M (rowRule c x)) → x ≡ row) → supporters a M (rowRules c k i) ≤ 1
+  unfolding rowRules tally
+  one-count zero i row all = omega arith
+  one-count (suc k) i row all =
+      ⊎-elim
+      (λ (t : T (supports a M (rowRule c i))).
+      let e : i ≡ row = all i (omega arith) (omega arith) t in
+      omega (
+        arith,
+        counted-most (supports a M (rowRule c i)) 1,
+        none-count k (suc i) (λ x low high u. omega (arith, e, all x (omega arith) (omega arith) u)),
+      ))
+      (λ (no : T (not (supports a M (rowRule c i)))).
+      let first : counted (supports a M (rowRule c i)) 1 ≡ 0 =
+      ap (λ (b : Bool). counted b 1) (T-false (supports a M (rowRule c i)) (T-not (supports a M (rowRule c i)) no)) in
+      omega (arith, one-count k (suc i) row (λ x low high. all x (omega arith) (omega arith))))
+      (decided (supports a M (rowRule c i)))
+
+pub only-once :
+    (c : List ℕ) (n count : ℕ) → Laid c n count → (a : ℕ) (M : Map) (r : Rule) → List·Memᴰ r (tableRules c count) → T (supports a M r)
+    → Only (tableRules c count) a M r → supporters a M (tableRules c count) ≡ 1
+only-once c n count laid a M r among t only =
+    omega (
+      arith,
+      count-some (supports a M) (tableRules c count) r among t,
+      one-count c a M count 0 (stands .row) same,
+    )
+  where
+    stands : Standing c 0 count r
+    stands = rule-stands c count r among
+
+    same : (x : ℕ) → 0 ≤ x → x < 0 + count → T (supports a M (rowRule c x)) → x ≡ stands .row
+    same x low high u =
+        laid .apart x (stands .row) (omega arith) (stands .among .high)
+        (only (rowRule c x) (rule-mem c count x (omega arith)) u ∙ stands .same)

@@ -15,7 +15,7 @@ ghost use Rattle.rules.specs.Forcing.{Closed};
 ghost use Rattle.table.specs.inner.Rows.{tableRules, Laid};
 ghost use Rattle.rules.specs.inner.Bytes.{Room, MapBytes};
 ghost use Rattle.rules.specs.Map.{undecided};
-ghost use Rattle.forcing.specs.inner.Rounds.{LowestAt, Forcing, BackedAll, FoundedAll, ClosesMap};
+ghost use Rattle.forcing.specs.inner.Rounds.{FirstWith, LowestAt, Forcing, BackedAll, FoundedAll, ClosesMap};
 
 // How many of the n atoms are undecided.
 pub fn count_undecided(m: &[u8], n: u32) -> u32
@@ -33,14 +33,14 @@ pub fn count_undecided(m: &[u8], n: u32) -> u32
     sum
 }
 
-// The index of the lowest undecided atom, or n.
-pub fn lowest(m: &[u8], n: u32) -> u32
-    requires { ⌜ MapBytes n (now m) ⌝ }
-    ensures { λ r. ⌜ LowestAt n (now (m .entry)) r ⌝ }
+// The index of the first of n bytes that is v, or n.
+fn first_with(m: &[u8], n: u32, v: u8) -> u32
+    requires { ⌜ Room n (now m) ⌝ }
+    ensures { λ r. ⌜ FirstWith v n (now (m .entry)) r ⌝ }
 {
     let mut i: u32 = 0;
     while i < n {
-        if m[i as usize] == 0 {
+        if m[i as usize] == v {
             return i;
         }
         i += 1;
@@ -48,11 +48,22 @@ pub fn lowest(m: &[u8], n: u32) -> u32
     i
 }
 
-// Forcing rule 2 at every rule: nothing where every atom is decided.
+// The index of the lowest undecided atom, or n.
+pub fn lowest(m: &[u8], n: u32) -> u32
+    requires { ⌜ Room n (now m) ⌝ }
+    ensures { λ r. ⌜ LowestAt n (now (m .entry)) r ⌝ }
+{
+    first_with(m, n, 0)
+}
+
+// Forcing rule 2 at every rule: nothing where no atom is in, or every atom is decided.
 fn back_round(code: &[u32], n: u32, count: u32, m: &mut [u8]) -> Outcome
     requires { ⌜ Laid (now code) n count × MapBytes n (now m) ⌝ }
     ensures { λ r. ⌜ Forcing (now (code .entry)) n count (BackedAll (now (code .entry)) count) (now (m .entry)) (now (m .exit)) r ⌝ }
 {
+    if first_with(m, n, 1) == n {
+        return Outcome::Same;
+    }
     if lowest(m, n) == n {
         return Outcome::Same;
     }

@@ -104,8 +104,8 @@ fits-by s m (Stop why) f = tt
 fits-by s m (Go o t) f = f o t refl
 
 module _ (s : List ℕ) where
-  fit : {o : Outline} {t t′ : Task} (m : List ℕ) → t ≡ t′ → sheetRead s ≡ Accepted o → TaskFits (o .atoms) (o .rules .value) m t′ → Fit s o m t
-  fit {o} m e accepted f = record { accepted = accepted; fits = subst (λ (x : Task). TaskFits (o .atoms) (o .rules .value) m x) (sym e) f }
+  fit : {o : Outline} {t t′ : Task} (m : List ℕ) → t ≡ t′ → sheetRead s ≡ Accepted o → TaskFits (o .atoms) (Within (o .rules .value)) m t′ → Fit s o m t
+  fit {o} m e accepted f = record { accepted = accepted; fits = subst (λ (x : Task). TaskFits (o .atoms) (Within (o .rules .value)) m x) (sym e) f }
 
   module _ (m : List ℕ) where
     pub open-fits : GateFits s (openGate s m) m

@@ -1,37 +1,25 @@
 -- Every worked case of the table holds of the definitions: the computed opening and search, proved right, are run on each row and
 -- compared with what the row expects, and the row's atoms with its n.
 use Prim.Native.Nat.{ℕ}
-use mathlib.Core.Path.{_≡_, refl, subst, ap₂}
+use mathlib.Core.Path.{_≡_, subst}
 use mathlib.Core.Bool.{Bool, true, false, _&&_}
-use mathlib.Core.List.{List, [], _∷_, List·Memᴰ, List·Memᴰ·not-nil}
+use mathlib.Core.List.{List, [], List·Memᴰ, List·Memᴰ·not-nil}
 use lib.Dec.{T, eqb}
 use Rattle.rules.specs.Sum.{tally, has}
 use Rattle.rules.specs.Rule.{Rule, Weighted, Sheet, Within, body}
 use Rattle.rules.specs.Stable.{value, Set, Model}
 use Rattle.rules.specs.Map.{Literal, inside, side}
-use Rattle.rules.specs.shown.Cases.{WorkedCase, Expected, bytes, nothing, MapIs, ModelIs, Proved, workedCases, sheet}
+use Rattle.rules.specs.shown.Cases.{WorkedCase, Expected, bytes, nothing, MapIs, ModelIs, Proved, workedCases, repeatCases, sheet}
 use Rattle.rules.specs.shown.Paper.{those}
 use Rattle.rules.proofs.Fits.{Numbered}
 use Rattle.rules.proofs.Tests.{T-and-left, T-and-right, T-eq, has-mem, T-false}
 use Rattle.rules.proofs.Inside.{inside-within}
 use Rattle.rules.proofs.Lists.{every, every-T}
+use Rattle.rules.proofs.Same.{equal, equal-T}
 use Rattle.rules.proofs.Fixpoint.{grow}
 use Rattle.rules.proofs.Closing.{Ending, closedAt, clash, closing}
 use Rattle.rules.proofs.Opening.{opening, opening-right, Opened, taking}
 use Rattle.rules.proofs.Searching.{SearchAnswer, model, noModel, solving, solving-right, Solved, searching, lowest}
-
-abbrev equal : List ℕ → List ℕ → Bool
-equal [] [] = true
-equal [] (y ∷ ys) = false
-equal (x ∷ xs) [] = false
-equal (x ∷ xs) (y ∷ ys) = eqb x y && equal xs ys
-
-equal-T : (xs ys : List ℕ) → T (equal xs ys) → xs ≡ ys
-equal-T [] [] t = refl
-equal-T [] (y ∷ ys) t = absurd t
-equal-T (x ∷ xs) [] t = absurd t
-equal-T (x ∷ xs) (y ∷ ys) t =
-    ap₂ _∷_ (T-eq (T-and-left (eqb x y) (equal xs ys) t)) (equal-T xs ys (T-and-right (eqb x y) (equal xs ys) t))
 
 -- is every atom of the rule one of the n?
 abbrev fitting : ℕ → Rule → Bool
@@ -78,13 +66,13 @@ numbered-T sh t = record { rules = record { head = head; literal = literal }; co
     literal r m false l i = inside-within n (l .atom) (every-T within (r .neg) (T-and-right (every within (r .pos)) (every within (r .neg)) (bodies r m)) l i)
 
 abbrev endsAs : Ending → Expected → Bool
-endsAs (closedAt m) (bytes q) = equal m q
+endsAs (closedAt m) (bytes q) = equal eqb m q
 endsAs (closedAt m) nothing = false
 endsAs clash (bytes q) = false
 endsAs clash nothing = true
 
 abbrev findsAs : SearchAnswer → Expected → Bool
-findsAs (model m) (bytes q) = equal m q
+findsAs (model m) (bytes q) = equal eqb m q
 findsAs (model m) nothing = false
 findsAs noModel (bytes q) = false
 findsAs noModel nothing = true
@@ -121,13 +109,13 @@ module _ (c : WorkedCase) (t : T (holds c)) where
 
   map-ends : (e : Ending) (x : Expected) → T (endsAs e x) → Opened sh (c .pins) e → MapIs sh (c .pins) x
   map-ends (closedAt m) (bytes q) u r =
-      subst (λ (b : List ℕ). MapIs sh (c .pins) (bytes b)) (equal-T m q u) (r .0)
+      subst (λ (b : List ℕ). MapIs sh (c .pins) (bytes b)) (equal-T eqb (λ x y. T-eq) m q u) (r .0)
   map-ends (closedAt m) nothing u r = absurd u
   map-ends clash (bytes q) u r = absurd u
   map-ends clash nothing u r = r
 
   model-ends : (f : SearchAnswer) (x : Expected) → T (findsAs f x) → Solved sh f → ModelIs sh x
-  model-ends (model m) (bytes q) u r = subst (λ (b : List ℕ). ModelIs sh (bytes b)) (equal-T m q u) r
+  model-ends (model m) (bytes q) u r = subst (λ (b : List ℕ). ModelIs sh (bytes b)) (equal-T eqb (λ x y. T-eq) m q u) r
   model-ends (model m) nothing u r = absurd u
   model-ends noModel (bytes q) u r = absurd u
   model-ends noModel nothing u r = r
@@ -152,9 +140,16 @@ module _ (c : WorkedCase) (t : T (holds c)) where
             (solving-right ok);
       }
 
--- the table
+-- the tables
 pub cases-proved : (c : WorkedCase) → List·Memᴰ c workedCases → Proved c
 cases-proved c m = case-proved c (every-T holds workedCases all-hold c m)
+
+repeats-hold : T (every holds repeatCases)
+unfolding repeatCases tally has value side those grow closing taking opening lowest searching solving
+repeats-hold = tt
+
+pub repeats-proved : (c : WorkedCase) → List·Memᴰ c repeatCases → Proved c
+repeats-proved c m = case-proved c (every-T holds repeatCases repeats-hold c m)
 
 -- "no atoms, no rules: one model, empty": every model of that sheet is empty, and by the table the empty set is one
 pub only-empty : (S : Set) → Model (sheet 0 []) S → (a : ℕ) → S a ≡ false

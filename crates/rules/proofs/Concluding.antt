@@ -3,17 +3,18 @@
 use Prim.Native.Nat.{ℕ, _+_, _≤_, _<_}
 use mathlib.Core.Path.{_≡_, refl, sym, _∙_, subst}
 use mathlib.Core.Logic.{⊎-elim}
-use mathlib.Core.Bool.{Bool, true, false, not, _&&_}
+use mathlib.Core.Bool.{Bool, true, false, not, _&&_, _||_}
 use mathlib.Core.List.{List, [], _∷_, _++_, map, List·Memᴰ, List·Memᴰ·head, List·Memᴰ·tail, List·Memᴰ·eq-of-singleton, List·Memᴰ·append-cases, Memᴰ·append-left, Memᴰ·append-right}
 use lib.Dec.{T, eqb, leb, ltb, leb→le, le→leb, ltb→lt, lt→ltb, T-not}
 use Rattle.rules.specs.Sum.{has}
 use Rattle.rules.specs.Rule.{Rule, Weighted, Within, body, chooses}
 use Rattle.rules.specs.Map.{Map, Literal, Holding, IsMap, want, sure, reach, _⊑_, signed}
-use Rattle.rules.specs.Forcing.{Closed, supports, supporters}
+use Rattle.rules.specs.Forcing.{Closed, supports, Only}
 use Rattle.rules.proofs.Fits.{Fits}
-use Rattle.rules.proofs.Tests.{and-T, T-and-left, T-and-right, eq-T, T-eq, has-mem, mem-has, decided}
-use Rattle.rules.proofs.Lists.{some, some-T, T-some, each, each-mem, mem-each, guard, guard-mem, mem-guard, downFrom, downFrom-within, within-upTo}
+use Rattle.rules.proofs.Tests.{and-T, T-and-left, T-and-right, eq-T, T-eq, has-mem, mem-has, decided, T-or, or-left, or-right}
+use Rattle.rules.proofs.Lists.{some, some-T, T-some, every, every-T, T-every, each, each-mem, mem-each, guard, guard-mem, mem-guard, downFrom, downFrom-within, within-upTo}
 use Rattle.rules.proofs.Members.{map-mem, mem-map}
+use Rattle.rules.proofs.Same.{sameRule, rule-T, T-rule}
 use Rattle.rules.proofs.Maps.{want-decided}
 use Rattle.rules.proofs.Forced.{forced-first, forced-second, forced-third, forced-fourth}
 use Rattle.rules.proofs.Founding.{U, U-founded, founded-U}
@@ -77,9 +78,26 @@ module _ (P : List Rule) (n : ℕ) (M : Map) where
   abbrev first : Rule → List Literal
   first r = guard (fires r) (map (signed true) (r .heads))
 
+  -- does no other rule support the atom?
+  abbrev noOther : Rule → ℕ → Bool
+  noOther r a = every (λ q. not (supports a M q) || sameRule q r) P
+
+  T-noOther : (r : Rule) (a : ℕ) → T (noOther r a) → Only P a M r
+  T-noOther r a t q among u =
+      ⊎-elim (λ (no : T (not (supports a M q))). absurd (T-not (supports a M q) no u)) (λ (same : T (sameRule q r)). rule-T q r same)
+      (T-or (not (supports a M q)) (sameRule q r) (every-T (λ q. not (supports a M q) || sameRule q r) P t q among))
+
+  noOther-T : (r : Rule) (a : ℕ) → Only P a M r → T (noOther r a)
+  noOther-T r a o =
+      T-every (λ q. not (supports a M q) || sameRule q r) P
+      (λ q among.
+      ⊎-elim (λ u. or-right (not (supports a M q)) (sameRule q r) (T-rule q r (o q among u)))
+      (λ no. or-left (not (supports a M q)) (sameRule q r) no)
+      (decided (supports a M q)))
+
   -- the atom is in, and the rule is its only supporter
   abbrev only : Rule → ℕ → Bool
-  only r a = eqb (M a) 1 && (eqb (supporters a M P) 1 && supports a M r)
+  only r a = eqb (M a) 1 && (supports a M r && noOther r a)
 
   abbrev needed : Rule → Weighted → Bool
   needed r l = ltb (reach r M) (r .need + l .weight)
@@ -126,7 +144,7 @@ module _ (P : List Rule) (n : ℕ) (M : Map) where
       (K : Literal → Type 0)
       (k₁ : (r : Rule) → List·Memᴰ r P → T (must r) → r .need ≤ sure r M → (a : ℕ) → T (has a (r .heads)) → K (signed true a))
       (k₂ :
-      (a : ℕ) → M a ≡ 1 → supporters a M P ≡ 1 → (r : Rule) → List·Memᴰ r P → T (supports a M r) → (s : Bool) (l : Weighted)
+      (a : ℕ) → M a ≡ 1 → (r : Rule) → List·Memᴰ r P → T (supports a M r) → Only P a M r → (s : Bool) (l : Weighted)
       → List·Memᴰ l (body r s) → M (l .atom) ≡ 0 → reach r M < r .need + l .weight → K (lit (l .atom) s))
       (k₃ :
       (r : Rule) → List·Memᴰ r P → T (must r) → (a : ℕ) → T (has a (r .heads)) → M a ≡ 2 → (s : Bool) (l : Weighted)
@@ -157,16 +175,16 @@ module _ (P : List Rule) (n : ℕ) (M : Map) where
           let h = each-mem (λ (a : ℕ). guard (only (k .0) a) (decidedBy M (k .0) (needed (k .0)) (λ s. s))) (k .0 .heads) (k .2) in
           let g = guard-mem (only (k .0) (h .0)) (decidedBy M (k .0) (needed (k .0)) (λ s. s)) (h .2) in
           let u = decided-mem M (k .0) (needed (k .0)) (λ s. s) (g .1) in
-          let both = T-and-right (eqb (M (h .0)) 1) (eqb (supporters (h .0) M P) 1 && supports (h .0) M (k .0)) (g .0) in
+          let both = T-and-right (eqb (M (h .0)) 1) (supports (h .0) M (k .0) && noOther (k .0) (h .0)) (g .0) in
           at
           (u .is)
           (k₂
           (h .0)
-          (T-eq (T-and-left (eqb (M (h .0)) 1) (eqb (supporters (h .0) M P) 1 && supports (h .0) M (k .0)) (g .0)))
-          (T-eq (T-and-left (eqb (supporters (h .0) M P) 1) (supports (h .0) M (k .0)) both))
+          (T-eq (T-and-left (eqb (M (h .0)) 1) (supports (h .0) M (k .0) && noOther (k .0) (h .0)) (g .0)))
           (k .0)
           (k .1)
-          (T-and-right (eqb (supporters (h .0) M P) 1) (supports (h .0) M (k .0)) both)
+          (T-and-left (supports (h .0) M (k .0)) (noOther (k .0) (h .0)) both)
+          (T-noOther (k .0) (h .0) (T-and-right (supports (h .0) M (k .0)) (noOther (k .0) (h .0)) both))
           (u .sign)
           (u .of)
           (u .among)
@@ -228,7 +246,7 @@ module _ (P : List Rule) (n : ℕ) (M : Map) where
         each-conclusion
         (λ c. Within n (c .atom))
         (λ r m _ _ a h. fits .head r m a h)
-        (λ a _ _ r m _ s l i _ _. fits .literal r m s l i)
+        (λ a _ r m _ _ s l i _ _. fits .literal r m s l i)
         (λ r m _ a _ _ s l i _ _. fits .literal r m s l i)
         (λ a w _. w)
 
@@ -249,7 +267,7 @@ module _ (P : List Rule) (n : ℕ) (M : Map) where
               (and-T (must r) (leb (r .need) (sure r M)) c (le→leb (r .need) (sure r M) k))
               (mem-map (signed true) (has-mem a (r .heads) h))));
           second =
-              λ a e c r m t s l i z k.
+              λ a e r m t o s l i z k.
               want-decided
               s
               (sym
@@ -265,9 +283,9 @@ module _ (P : List Rule) (n : ℕ) (M : Map) where
               (only r a)
               (and-T
               (eqb (M a) 1)
-              (eqb (supporters a M P) 1 && supports a M r)
+              (supports a M r && noOther r a)
               (eq-T e)
-              (and-T (eqb (supporters a M P) 1) (supports a M r) (eq-T c) t))
+              (and-T (supports a M r) (noOther r a) t (noOther-T r a o)))
               (mem-decided M r (needed r) (λ u. u) s l i z (lt→ltb (reach r M) (r .need + l .weight) k))))))
               ∙ z);
           third =

@@ -1,6 +1,6 @@
 -- What a forcing rule concludes from a map M holds in every closed map X above M: sure only grows and reach only falls from M to X,
 -- so X meets the same rule's premise, and the other side of the literal would break another rule of X. Rule 2 needs rule 4: an
--- atom that is in is founded, so some rule supports it in X, and that is the one rule that supports it in M.
+-- atom that is in is founded, so some rule supports it in X, and that is the one rule that supports it in M, however often it stands.
 use Prim.Native.Nat.{ℕ, _+_, _≤_, _<_}
 use mathlib.Core.Path.{_≡_, refl, sym, _∙_, subst}
 use mathlib.Core.Logic.{_⊎_, inl, inr, ⊎-elim}
@@ -12,9 +12,9 @@ use Rattle.rules.specs.Sum.{has}
 use Rattle.rules.specs.Rule.{Rule, Weighted, Within, body, chooses}
 use Rattle.rules.specs.Stable.{Set, value}
 use Rattle.rules.specs.Map.{Map, want, isnt, sure, reach, _⊑_}
-use Rattle.rules.specs.Forcing.{Closed, Grounds, Founded, supports, supporters}
+use Rattle.rules.specs.Forcing.{Closed, Grounds, Founded, supports, Only}
 use Rattle.rules.proofs.Tests.{ne-T, T-ne, and-T, T-and-left, T-and-right}
-use Rattle.rules.proofs.Sum.{tally-mono, count-some, count-one, find}
+use Rattle.rules.proofs.Sum.{find, count, count-one}
 use Rattle.rules.proofs.Value.{by, value-mono}
 use Rattle.rules.proofs.Maps.{sides, decided-within, want-apart, want-decided, sure-grows, reach-falls, sure-more, reach-less}
 
@@ -27,6 +27,12 @@ supports-reach a M r t = leb→le (r .need) (reach r M) (T-and-right (has a (r .
 
 pub to-supports : (a : ℕ) (M : Map) (r : Rule) → T (has a (r .heads)) → r .need ≤ reach r M → T (supports a M r)
 to-supports a M r h l = and-T (has a (r .heads)) (leb (r .need) (reach r M)) h (le→leb (r .need) (reach r M) l)
+
+-- where one rule alone, counted as often as each stands, supports an atom, it is the only one: so rule 2 forces at least what it did when
+-- it counted so
+pub one-only :
+    (P : List Rule) (a : ℕ) (M : Map) (r : Rule) → List·Memᴰ r P → T (supports a M r) → count (supports a M) P ≡ 1 → Only P a M r
+one-only P a M r m t one q n u = count-one (supports a M) P (omega (arith, one)) q r n m u t
 
 -- a founded atom has a supporter: without one, the atoms not out but for it would be grounds
 pub supporter : (P : List Rule) (M : Map) (a : ℕ) → Founded P M a → (r : Rule) × List·Memᴰ r P × T (supports a M r)
@@ -81,10 +87,10 @@ module _ {P : List Rule} {n : ℕ} {M X : Map} (f : M ⊑ X) (x : Closed P n X) 
   supports-back a r t = to-supports a M r (supports-head a X r t) (omega (arith, reach-falls f r, supports-reach a X r t))
 
   pub forced-second :
-      (a : ℕ) → M a ≡ 1 → supporters a M P ≡ 1 → (r : Rule) → List·Memᴰ r P → T (supports a M r)
+      (a : ℕ) → M a ≡ 1 → (r : Rule) → List·Memᴰ r P → T (supports a M r) → Only P a M r
       → (s : Bool) (l : Weighted) → List·Memᴰ l (body r s) → M (l .atom) ≡ 0 → reach r M < r .need + l .weight
       → X (l .atom) ≡ want s
-  forced-second a e1 c r m t s l i z k = go (supporter P X a (x .fourth a within notOut))
+  forced-second a e1 r m t only s l i z k = go (supporter P X a (x .fourth a within notOut))
     where
       inX : X a ≡ 1
       inX = f .keeps true a e1
@@ -99,19 +105,16 @@ module _ {P : List Rule} {n : ℕ} {M X : Map} (f : M ⊑ X) (x : Closed P n X) 
       go g = step (sides (X (l .atom)) (x .isMap .sides (l .atom)) s)
         where
           same : g .0 ≡ r
-          same = count-one (supports a M) P (omega (arith, c)) (g .0) r (g .1) m (supports-back a (g .0) (g .2)) t
+          same = only (g .0) (g .1) (supports-back a (g .0) (g .2))
 
           here : T (supports a X r)
           here = subst (λ (q : Rule). T (supports a X q)) same (g .2)
 
-          few : supporters a X P ≤ supporters a M P
-          few = tally-mono (supports a X) (supports a M) (λ _. 1) P (λ q _. supports-back a q)
-
-          onlyX : supporters a X P ≡ 1
-          onlyX = omega (arith, few, count-some (supports a X) P r m here, c)
+          onlyX : Only P a X r
+          onlyX q among u = only q among (supports-back a q u)
 
           step : (X (l .atom) ≡ 0) ⊎ ((X (l .atom) ≡ want s) ⊎ (X (l .atom) ≡ want (not s))) → X (l .atom) ≡ want s
-          step (inl e) = absurd (x .second a inX onlyX r m here s l i e (omega (arith, reach-falls f r, k)))
+          step (inl e) = absurd (x .second a inX r m here onlyX s l i e (omega (arith, reach-falls f r, k)))
           step (inr (inl e)) = e
           step (inr (inr e)) = absurd (omega (arith, reach-less f r s l i z e, supports-reach a X r here, k))
 

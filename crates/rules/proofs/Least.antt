@@ -5,9 +5,9 @@ use mathlib.Core.Path.{_≡_, refl, sym, subst}
 use mathlib.Core.Logic.{⊎-elim}
 use mathlib.Core.Bool.{Bool}
 use mathlib.Core.List.{List, [], _∷_, _++_, List·Memᴰ, List·Memᴰ·head, List·Memᴰ·not-nil, List·Memᴰ·cases-cons, List·Memᴰ·append-cases, Memᴰ·append-left, Memᴰ·append-right}
-use Rattle.rules.specs.Rule.{Rule}
+use Rattle.rules.specs.Rule.{Rule, SameSet}
 use Rattle.rules.specs.Map.{Map, Literal, IsMap, Holding, Over, signed, want, _⊑_}
-use Rattle.rules.specs.Forcing.{Closed, Least, Contradiction, SameSet}
+use Rattle.rules.specs.Forcing.{Closed, Least, Contradiction}
 use Rattle.rules.proofs.Maps.{⊑-antisym, ⊑-refl}
 
 pub holding-nil : (M : Map) → Holding [] M
@@ -103,6 +103,3 @@ least-unique = least-one (λ M x. x .isMap)
 
 pub holding-set : {ps ps′ : List Literal} → SameSet ps ps′ → (X : Map) → Holding ps X → Holding ps′ X
 holding-set k X h p m = h p (k .back p m)
-
-pub same-sym : {ps ps′ : List Literal} → SameSet ps ps′ → SameSet ps′ ps
-same-sym k = record { onto = k .back; back = k .onto }

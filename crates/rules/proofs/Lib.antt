@@ -8,6 +8,7 @@ pub mod Maps
 pub mod Forced
 pub mod Total
 pub mod Members
+pub mod Same
 pub mod Least
 pub mod Models
 pub mod Testing

@@ -1,10 +1,11 @@
--- Membership by index, through map, ++ and a change of order.
+-- Membership by index, through map and a change of order; and lists of the same elements.
 use Prim.Native.Nat.{ℕ, zero, suc, _<_}
-use mathlib.Core.Path.{_≡_, refl, _∙_, ap}
-use mathlib.Core.Logic.{_⊎_, inl, inr}
-use mathlib.Core.List.{List, [], _∷_, map, List·Memᴰ, List·Memᴰ·head, List·Memᴰ·tail, List·Memᴰ·cases-cons, List·Memᴰ·not-nil, List·Permᴰ, List·Permᴰ·nil, List·Permᴰ·cons, List·Permᴰ·swap, List·Permᴰ·trans}
+use mathlib.Core.Path.{_≡_, refl, sym, _∙_, ap, subst}
+use mathlib.Core.Logic.{_⊎_, inl, inr, ⊎-elim}
+use mathlib.Core.List.{List, [], _∷_, map, List·Memᴰ, List·Memᴰ·head, List·Memᴰ·tail, List·Memᴰ·cases-cons, List·Memᴰ·not-nil, List·Permᴰ, List·Permᴰ·nil, List·Permᴰ·cons, List·Permᴰ·swap, List·Permᴰ·trans, Permᴰ·symm}
 use native.Mathlib.Omega.{arith}
 use lib.ListN.{length, getD}
+use Rattle.rules.specs.Rule.{SameSet}
 
 module _ {ℓ} {A B : Type ℓ} (f : A → B) where
   pub map-mem : (xs : List A) {y : B} → List·Memᴰ y (map f xs) → (x : A) × List·Memᴰ x xs × (y ≡ f x)
@@ -27,6 +28,10 @@ module _ {ℓ} {A : Type ℓ} where
   index-mem (x ∷ xs) zero other h = List·Memᴰ·head refl
   index-mem (x ∷ xs) (suc i) other h = List·Memᴰ·tail (index-mem xs i other (omega arith))
 
+  pub mem-index : (other : A) {x : A} {xs : List A} → List·Memᴰ x xs → (i : ℕ) × (i < length xs) × (getD xs i other ≡ x)
+  mem-index other (List·Memᴰ·head e) = (0, omega arith, sym e)
+  mem-index other (List·Memᴰ·tail m) = let t = mem-index other m in (suc (t .0), omega (arith, t .1), t .2)
+
   pub perm-mem : {x : A} {xs ys : List A} → List·Permᴰ xs ys → List·Memᴰ x xs → List·Memᴰ x ys
   perm-mem List·Permᴰ·nil m = m
   perm-mem {x} (List·Permᴰ·cons {a = a} {b = b} {l₁ = l₁} {l₂ = l₂} e d) m = step (perm-mem d) (List·Memᴰ·cases-cons m)
@@ -44,3 +49,21 @@ module _ {ℓ} {A : Type ℓ} where
       step (inl k) = List·Memᴰ·tail (List·Memᴰ·head (k ∙ e₁))
       step (inr k) = later (List·Memᴰ·cases-cons k)
   perm-mem (List·Permᴰ·trans d₁ d₂) m = perm-mem d₂ (perm-mem d₁ m)
+
+module _ {A : Type 0} where
+  pub same-sym : {xs ys : List A} → SameSet xs ys → SameSet ys xs
+  same-sym k = record { onto = k .back; back = k .onto }
+
+  -- lists that differ only in order
+  pub permuted-same : {xs ys : List A} → List·Permᴰ xs ys → SameSet xs ys
+  permuted-same d = record { onto = λ x m. perm-mem d m; back = λ x m. perm-mem (Permᴰ·symm d) m }
+
+  -- an element that stands once more
+  pub repeated-same : {x : A} {xs : List A} → List·Memᴰ x xs → SameSet (x ∷ xs) xs
+  repeated-same {x} {xs} m =
+      record {
+        onto =
+            λ y i.
+            ⊎-elim (λ (e : y ≡ x). subst (λ (z : A). List·Memᴰ z xs) (sym e) m) (λ (j : List·Memᴰ y xs). j) (List·Memᴰ·cases-cons i);
+        back = λ y i. List·Memᴰ·tail i;
+      }

@@ -1,11 +1,10 @@
 -- The weighted sum, once for every list, test and weight: it grows with its test, by at least the weight of an element that the
--- larger test adds; it is at most the heaviest weight for each element; it does not see the order of its list; and a count of 1 has one
--- element. By induction on the list.
+-- larger test adds; it is at most the heaviest weight for each element; and a count of 1 has one element. By induction on the list.
 use Prim.Native.Nat.{ℕ, _+_, _*_, _≤_}
 use mathlib.Core.Path.{_≡_, refl, ap, ap₂, sym, _∙_, subst}
 use mathlib.Core.Logic.{_⊎_, inl, inr, ⊎-elim}
 use mathlib.Core.Bool.{Bool, true, false, not}
-use mathlib.Core.List.{List, [], _∷_, List·Memᴰ, List·Memᴰ·head, List·Memᴰ·tail, List·Memᴰ·cases-cons, List·Memᴰ·not-nil, List·Permᴰ, List·Permᴰ·nil, List·Permᴰ·cons, List·Permᴰ·swap, List·Permᴰ·trans}
+use mathlib.Core.List.{List, [], _∷_, List·Memᴰ, List·Memᴰ·head, List·Memᴰ·tail, List·Memᴰ·cases-cons, List·Memᴰ·not-nil}
 use native.Mathlib.Omega.{arith}
 use lib.ListN.{length}
 use lib.Dec.{T}
@@ -78,17 +77,6 @@ module _ {ℓ} {A : Type ℓ} where
   tally-same p q w [] f = refl
   tally-same p q w (x ∷ xs) f =
       ap₂ _+_ (ap (λ (b : Bool). counted b (w x)) (f x (List·Memᴰ·head refl))) (tally-same p q w xs (λ y m. f y (List·Memᴰ·tail m)))
-
-  -- the order of the list does not matter
-  pub tally-perm : (p : A → Bool) (w : A → ℕ) {xs ys : List A} → List·Permᴰ xs ys → tally p w xs ≡ tally p w ys
-  unfolding tally
-  tally-perm p w List·Permᴰ·nil = refl
-  tally-perm p w (List·Permᴰ·cons e d) = ap₂ _+_ (ap (λ (x : A). counted (p x) (w x)) e) (tally-perm p w d)
-  tally-perm p w (List·Permᴰ·swap {a = a} {b = b} {a′ = a′} {b′ = b′} {l = l} e₁ e₂) =
-      let u : counted (p a) (w a) ≡ counted (p b′) (w b′) = ap (λ (x : A). counted (p x) (w x)) e₁ in
-      let v : counted (p b) (w b) ≡ counted (p a′) (w a′) = ap (λ (x : A). counted (p x) (w x)) e₂ in
-      omega arith
-  tally-perm p w (List·Permᴰ·trans d₁ d₂) = tally-perm p w d₁ ∙ tally-perm p w d₂
 
   abbrev pub count : (A → Bool) → List A → ℕ
   count p xs = tally p (λ _. 1) xs

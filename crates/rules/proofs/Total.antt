@@ -205,7 +205,7 @@ module _ {n : ℕ} {P : List Rule} (fits : Fits n P) where
         record {
           isMap = total-map n S;
           first = first-holds;
-          second = λ a e c r m t s l i z k. total-decided S (fits .literal r m s l i) z;
+          second = λ a e r m t o s l i z k. total-decided S (fits .literal r m s l i) z;
           third = λ r m c a h e s l i z k. total-decided S (fits .literal r m s l i) z;
           fourth = founded;
         }

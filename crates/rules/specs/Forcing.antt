@@ -5,14 +5,14 @@
 --  3. A rule other than choice has its head out: each undecided literal whose weight added to sure meets the need is made false.
 --  4. Let U be the smallest set of atoms, none of them out, that holds every head not out of any rule whose reach, with positive
 --     atoms counted only if in U, meets its need. Atoms outside U are out.
--- A map is closed when none of these adds anything. An atom forced both ways is a contradiction.
--- Repeated rules count as often as they stand on the sheet."
+-- A map is closed when none of these adds anything. An atom forced both ways is a contradiction."
+-- "A repeated rule counts once .. Forcing rule 2 now counts different rules": the one rule of rule 2 may stand more than once.
 use Prim.Native.Nat.{ℕ, _+_, _≤_, _<_}
 use mathlib.Core.Path.{_≡_}
 use mathlib.Core.Bool.{Bool, true, false, not, _&&_}
 use mathlib.Core.List.{List, _++_, map, List·Memᴰ}
 use lib.Dec.{T, leb}
-use Rattle.rules.specs.Sum.{tally, has}
+use Rattle.rules.specs.Sum.{has}
 use Rattle.rules.specs.Rule.{Rule, Weighted, Sheet, Within, body, chooses}
 use Rattle.rules.specs.Stable.{Set, value}
 use Rattle.rules.specs.Map.{Map, Literal, IsMap, Holding, isnt, signed, sure, reach, _⊑_}
@@ -21,9 +21,9 @@ use Rattle.rules.specs.Map.{Map, Literal, IsMap, Holding, isnt, signed, 
 abbrev pub supports : ℕ → Map → Rule → Bool
 supports a M r = has a (r .heads) && leb (r .need) (reach r M)
 
--- how many rules with this head have reach at or above their need
-abbrev pub supporters : ℕ → Map → List Rule → ℕ
-supporters a M P = tally (supports a M) (λ _. 1) P
+-- every rule with this head that has reach at or above its need is this one
+abbrev pub Only : List Rule → ℕ → Map → Rule → Type 0
+Only P a M r = (q : Rule) → List·Memᴰ q P → T (supports a M q) → q ≡ r
 
 -- a set of atoms, none of them out, that holds what rule 4's U must hold
 pub record Grounds (P : List Rule) (M : Map) (C : Set) : Type 0 where
@@ -42,7 +42,7 @@ pub record Closed (P : List Rule) (n : ℕ) (M : Map) : Type 0 where
       (r : Rule) → List·Memᴰ r P → T (not (chooses (r .kind))) → r .need ≤ sure r M
       → (a : ℕ) → T (has a (r .heads)) → M a ≡ 1
   pub second :
-      (a : ℕ) → M a ≡ 1 → supporters a M P ≡ 1 → (r : Rule) → List·Memᴰ r P → T (supports a M r)
+      (a : ℕ) → M a ≡ 1 → (r : Rule) → List·Memᴰ r P → T (supports a M r) → Only P a M r
       → (s : Bool) (l : Weighted) → List·Memᴰ l (body r s) → M (l .atom) ≡ 0 → reach r M < r .need + l .weight → ⊥
   pub third :
       (r : Rule) → List·Memᴰ r P → T (not (chooses (r .kind))) → (a : ℕ) → T (has a (r .heads)) → M a ≡ 2
@@ -66,8 +66,3 @@ computed sh = map (signed true) (sh .computeIn) ++ map (signed false) (sh .compu
 -- "the smallest consistent set that holds pins and compute lists and is closed under the four forcing rules"
 abbrev pub Pinned : Sheet → List Literal → Map → Type 0
 Pinned sh ps M = Holding (computed sh ++ ps) M
-
--- two lists with the same elements, in any order and with any repeats
-pub record SameSet (ps ps′ : List Literal) : Type 0 where
-  pub onto : (p : Literal) → List·Memᴰ p ps → List·Memᴰ p ps′
-  pub back : (p : Literal) → List·Memᴰ p ps′ → List·Memᴰ p ps

@@ -3,7 +3,7 @@
 use Prim.Native.Nat.{ℕ, _+_, _-_, _≤_}
 use mathlib.Core.Path.{_≡_}
 use mathlib.Core.Bool.{Bool, true, false}
-use mathlib.Core.List.{List, [], _∷_, map, List·Permᴰ}
+use mathlib.Core.List.{List, [], _∷_, map, List·Memᴰ}
 use lib.ListN.{length, getD}
 use lib.Dec.{eqb, ltb}
 use Rattle.rules.specs.Sum.{pick}
@@ -111,9 +111,15 @@ partOf r p i =
     (pick (eqb p 8) (itemOf (atomsOf (r .neg)) i)
     (pick (eqb p 9) (itemOf (weightsOf (r .neg)) i) nothing)))))))))
 
--- two sheets that differ only in the order of their rules
+-- two lists with the same elements, in any order and with any repeats
+pub record SameSet {A : Type 0} (xs ys : List A) : Type 0 where
+  pub onto : (x : A) → List·Memᴰ x xs → List·Memᴰ x ys
+  pub back : (x : A) → List·Memᴰ x ys → List·Memᴰ x xs
+
+-- two sheets that differ only in the order of their rules and in how often a rule stands: "Simons' program is a set of rules". "Two
+-- rules are the same when kind, heads, need, body and weights are all equal"
 pub record Shuffled (sh sh′ : Sheet) : Type 0 where
   pub atoms : sh .atoms ≡ sh′ .atoms
-  pub rules : List·Permᴰ (sh .rules) (sh′ .rules)
+  pub rules : SameSet (sh .rules) (sh′ .rules)
   pub computeIn : sh .computeIn ≡ sh′ .computeIn
   pub computeOut : sh .computeOut ≡ sh′ .computeOut

@@ -3,8 +3,7 @@
 use Prim.Native.Nat.{ℕ}
 use mathlib.Core.Path.{_≡_, sym, _∙_}
 use mathlib.Core.List.{List}
-use Rattle.rules.specs.Rule.{Sheet, Shuffled}
-use Rattle.rules.specs.Forcing.{SameSet}
+use Rattle.rules.specs.Rule.{Sheet, SameSet, Shuffled}
 use Rattle.desk.specs.Run.{Pin, acceptedOf}
 use Rattle.desk.specs.declared.Opened.{Opened}
 use Rattle.desk.proofs.Order.{order-whole}

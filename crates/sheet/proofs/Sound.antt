@@ -87,7 +87,7 @@ module _ (n : ℕ) (fewAtoms : n ≤ atomsMost) where
       lights true = u
       lights false = v
 
-  each-proper : {r : Rule} {rs : List Rule} → ProperRules n rs → List·Memᴰ r rs → ProperRule n r
+  pub each-proper : {r : Rule} {rs : List Rule} → ProperRules n rs → List·Memᴰ r rs → ProperRule n r
   each-proper noRules m = absurd (List·Memᴰ·not-nil m)
   each-proper {r} (andRule {r = q} {rs = rs} p ps) m =
       ⊎-elim
@@ -97,3 +97,10 @@ module _ (n : ℕ) (fewAtoms : n ≤ atomsMost) where
 
   pub each-sound : {r : Rule} {rs : List Rule} → ProperRules n rs → List·Memᴰ r rs → Sound n r
   each-sound {r} ps m = proper-sound r (each-proper ps m)
+
+-- it has a head
+pub proper-headed : (n : ℕ) (m : Rule) → ProperRule n m → 1 ≤ length (m .heads)
+proper-headed n m (isBasic h xs ys e w x y) = subst (λ (r : Rule). 1 ≤ length (r .heads)) (sym e) (omega arith)
+proper-headed n m (isConstraint h k xs ys e w b x y) = subst (λ (r : Rule). 1 ≤ length (r .heads)) (sym e) (omega arith)
+proper-headed n m (isChoice hs xs ys e l h x y) = subst (λ (r : Rule). 1 ≤ length (r .heads)) (sym e) l
+proper-headed n m (isWeight h k xs ys e w b x y u v) = subst (λ (r : Rule). 1 ≤ length (r .heads)) (sym e) (omega arith)

@@ -5,6 +5,7 @@ ghost use Prim.Native.Nat.{_≤_};
 ghost use mathlib.Core.Path.{_≡_};
 ghost use Rattle.rules.specs.Rule.{chooses};
 ghost use Rattle.table.specs.inner.Words.{wordAt, pairAtom, pairWeight};
+pub use parts::kind_at;
 pub use parts::part;
 use rules::kind::CHOICE;
 ghost use Rattle.table.specs.inner.Rows.{kindAt, needAt, headsAt, positivesAt, negativesAt, endAt};

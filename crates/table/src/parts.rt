@@ -20,7 +20,7 @@ use rules::kind::CONSTRAINT;
 use rules::kind::WEIGHT;
 
 // The number of row i's kind.
-fn kind_written(code: &[u32], i: u32) -> usize
+pub fn kind_at(code: &[u32], i: u32) -> usize
     ensures { λ r. ⌜ r ≡ kindNumber (kindAt (now (code .entry)) i) ⌝ }
 {
     let kind = word(code, super::ROW * (i as usize)) as usize;
@@ -65,7 +65,7 @@ pub fn part(code: &[u32], i: u32, part: usize, k: usize) -> Item
     let negatives = negatives_at(code, i);
     let end = end_at(code, i);
     match part {
-        0 => Item::Is(kind_written(code, i)),
+        0 => Item::Is(kind_at(code, i)),
         1 => Item::Is(need_at(code, i) as usize),
         2 => Item::Is(count(heads, positives)),
         3 => pair_item(code, heads, positives, false, k),

@@ -1,5 +1,5 @@
-// One task, on the table of a sheet of n atoms and count rules.
-ghost use Prim.Native.Nat.{_-_};
+// One task, on the table of a sheet of n atoms and count rules. What is asked of a rule is asked of its row.
+ghost use Prim.Native.Nat.{_<_};
 ghost use mathlib.Core.Path.{_≡_};
 ghost use mathlib.Core.List.{[], _∷_};
 ghost use Rattle.rules.specs.Rule.{Within};
@@ -19,7 +19,6 @@ use gate::Ask;
 use gate::Task;
 use rules::Atom;
 use rules::Item;
-use rules::RuleNo;
 use search::choose;
 
 fn answer(n: u32, found: bool, number: usize) -> Answer
@@ -82,12 +81,11 @@ fn search_model(code: &[u32], n: u32, count: u32, work: &mut [u8]) -> Answer
     settled
 }
 
-// What is asked of a rule.
-fn tell(code: &[u32], n: u32, rule: RuleNo, ask: Ask, map: &[u8]) -> Answer
-    requires { ⌜ TellAsks (now code) n (rule .number) ask (now map) ⌝ }
-    ensures { λ r. ⌜ Told (rowRule (now (code .entry)) (rule .number - 1)) n (side n (now (map .entry))) ask r ⌝ }
+// What is asked of the rule of a row.
+fn tell(code: &[u32], n: u32, row: u32, ask: Ask, map: &[u8]) -> Answer
+    requires { ⌜ TellAsks (now code) n row ask (now map) ⌝ }
+    ensures { λ r. ⌜ Told (rowRule (now (code .entry)) row) n (side n (now (map .entry))) ask r ⌝ }
 {
-    let row = (rule.number() - RuleNo::FIRST) as u32;
     match ask {
         Ask::Margin => Answer {
             atoms: n as usize,
@@ -106,12 +104,13 @@ pub fn perform_task(
     code: &[u32],
     n: u32,
     count: u32,
+    row: u32,
     task: Task,
     map: &[u8],
     work: &mut [u8],
 ) -> Answer
-    requires { ⌜ Laid (now code) n count × (TaskFits n count (now map) task × (now work ≡ blank)) ⌝ }
-    ensures { λ r. ⌜ Performs (tableSheet (now (code .entry)) n count) (now (map .entry)) task (now (work .entry)) (now (work .exit)) r ⌝ }
+    requires { ⌜ Laid (now code) n count × (TaskFits n (λ _. row < count) (now map) task × (now work ≡ blank)) ⌝ }
+    ensures { λ r. ⌜ Performs (tableSheet (now (code .entry)) n count) (rowRule (now (code .entry)) row) (now (map .entry)) task (now (work .entry)) (now (work .exit)) r ⌝ }
 {
     match task {
         Task::Stay => answer(n, false, 0),
@@ -125,6 +124,6 @@ pub fn perform_task(
             copy(map, n as usize, work);
             close_held(code, n, count, work)
         }
-        Task::Rule(rule, ask) => tell(code, n, rule, ask, map),
+        Task::Rule(_, ask) => tell(code, n, row, ask, map),
     }
 }

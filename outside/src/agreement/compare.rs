@@ -2,6 +2,7 @@
 
 use crate::answer::{Answer, in_words};
 use crate::desk::{After, Call, Desk};
+use crate::plain::forcing::Program;
 use crate::plain::reader::read_sheet;
 use crate::plain::search::first_model_within;
 use std::fmt;
@@ -82,11 +83,12 @@ impl Table<'_> {
         Err(self.disagreement(call, map, "plain changed a byte that is not its own"))
     }
 
-    /// Whether a search on this sheet is short enough for a test.
+    /// Whether a search on this sheet is short enough for a test, even one
+    /// that counts repeats.
     pub fn solves_soon(&self) -> bool {
         let Ok(sheet) = read_sheet(self.sheet) else { return true };
         let trials = 600 + 400_000 / sheet.size() as u64;
-        first_model_within(&sheet, trials).is_ok()
+        first_model_within(&Program::counting_repeats(&sheet), trials).is_ok()
     }
 }
 

@@ -4,7 +4,7 @@
 //! Every call may be made with any bytes and any numbers. A refusal leaves
 //! the map as it was, and no call touches a map's bytes past the atom count.
 
-use super::forcing::{BothWays, close, hold};
+use super::forcing::{BothWays, Program, close, hold};
 use super::maps::{CONTRADICTION, IN, Lent, OUT, read_decided, read_map, undecided};
 use super::meaning::{agrees, is_stable, reach};
 use super::reader::read_sheet;
@@ -63,7 +63,7 @@ fn check(bytes: &[u8]) -> Result<Answer, Refusal> {
 fn open(bytes: &[u8], map: &mut [u8]) -> Result<Answer, Refusal> {
     let sheet = read_sheet(bytes)?;
     let lent = lent_mut(&sheet, map)?;
-    Ok(hand_back(opened(&sheet), lent))
+    Ok(hand_back(opened(&Program::of(&sheet)), lent))
 }
 
 fn pin(bytes: &[u8], map: &mut [u8], atom: u64, side: u64) -> Result<Answer, Refusal> {
@@ -80,7 +80,7 @@ fn pin(bytes: &[u8], map: &mut [u8], atom: u64, side: u64) -> Result<Answer, Ref
 fn solve(bytes: &[u8], map: &mut [u8]) -> Result<Answer, Refusal> {
     let sheet = read_sheet(bytes)?;
     let lent = lent_mut(&sheet, map)?;
-    match first_model(&sheet) {
+    match first_model(&Program::of(&sheet)) {
         Some(model) => {
             lent.copy_from_slice(&model);
             Ok(Answer::Model)
@@ -137,7 +137,7 @@ fn part_of(rule: &Rule, part: u64, index: u64) -> Option<u64> {
 
 fn pinned_map(sheet: &Sheet, mut map: Vec<u8>, pinned: (usize, u8)) -> Result<Vec<u8>, BothWays> {
     hold(&mut map, pinned)?;
-    close(sheet, &mut map)?;
+    close(&Program::of(sheet), &mut map)?;
     Ok(map)
 }
 

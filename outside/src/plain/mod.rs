@@ -1,6 +1,6 @@
 //! The plain solver. It does the obvious thing at every place: it reads the
-//! whole sheet into a record, looks at every rule again after each change,
-//! and copies the map at each guess.
+//! whole sheet into a record, takes the set of its rules once, looks at every
+//! rule again after each change, and copies the map at each guess.
 
 pub mod calls;
 pub mod forcing;

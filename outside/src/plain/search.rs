@@ -1,29 +1,28 @@
 //! The search for the first agreeing stable model.
 
-use super::forcing::{BothWays, close, hold};
+use super::forcing::{BothWays, Program, close, hold};
 use super::maps::{IN, OUT, UNDECIDED};
-use crate::sheet::Sheet;
 
 /// The search gave up because it had made as many trials as it may.
 #[derive(Clone, Copy, Debug, PartialEq, Eq)]
 pub struct GaveUp;
 
 /// The smallest closed map that holds the compute lists.
-pub fn opened(sheet: &Sheet) -> Result<Vec<u8>, BothWays> {
-    let mut map = vec![UNDECIDED; sheet.atoms];
-    for &atom in &sheet.compute_in {
+pub fn opened(program: &Program) -> Result<Vec<u8>, BothWays> {
+    let mut map = vec![UNDECIDED; program.sheet.atoms];
+    for &atom in &program.sheet.compute_in {
         hold(&mut map, (atom, IN))?;
     }
-    for &atom in &sheet.compute_out {
+    for &atom in &program.sheet.compute_out {
         hold(&mut map, (atom, OUT))?;
     }
-    close(sheet, &mut map)?;
+    close(program, &mut map)?;
     Ok(map)
 }
 
 /// The first agreeing stable model as a decided map.
-pub fn first_model(sheet: &Sheet) -> Option<Vec<u8>> {
-    match first_model_within(sheet, u64::MAX) {
+pub fn first_model(program: &Program) -> Option<Vec<u8>> {
+    match first_model_within(program, u64::MAX) {
         Ok(found) => found,
         Err(GaveUp) => unreachable!("no search makes so many trials"),
     }
@@ -31,15 +30,15 @@ pub fn first_model(sheet: &Sheet) -> Option<Vec<u8>> {
 
 /// The first agreeing stable model, if it is found or ruled out with at most
 /// `trials` guesses.
-pub fn first_model_within(sheet: &Sheet, trials: u64) -> Result<Option<Vec<u8>>, GaveUp> {
-    match opened(sheet) {
-        Ok(map) => Search { sheet, left: trials }.first_above(map),
+pub fn first_model_within(program: &Program, trials: u64) -> Result<Option<Vec<u8>>, GaveUp> {
+    match opened(program) {
+        Ok(map) => Search { program, left: trials }.first_above(map),
         Err(BothWays) => Ok(None),
     }
 }
 
 struct Search<'a> {
-    sheet: &'a Sheet,
+    program: &'a Program<'a>,
     left: u64,
 }
 
@@ -61,7 +60,7 @@ impl Search<'_> {
     /// The first decided closed map that holds a map and one guess.
     fn trial(&mut self, mut map: Vec<u8>, guess: (usize, u8)) -> Result<Option<Vec<u8>>, GaveUp> {
         self.left = self.left.checked_sub(1).ok_or(GaveUp)?;
-        let closed = hold(&mut map, guess).and_then(|()| close(self.sheet, &mut map));
+        let closed = hold(&mut map, guess).and_then(|()| close(self.program, &mut map));
         match closed {
             Ok(()) => self.first_above(map),
             Err(BothWays) => Ok(None),

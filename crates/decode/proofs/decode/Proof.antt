@@ -1,10 +1,10 @@
--- `decode` meets its contract. The rules and the compute lists of an accepted sheet find room, and what is written is a table of them.
+-- `decode` meets its contract. The rules and the compute lists of an accepted sheet find room, and what is written is a table of them, each rule once.
 use native.Mathlib.Omega.{arith}
 use borrow.Author.Needs.{needs}
 use denote.Ref.{now}
 use Rattle.rules.specs.Limits.{rulesMost}
 use Rattle.sheet.proofs.sheet.Ran.{sheet-ran}
-use Rattle.decode.proofs.Ended.{lists-ask, ending-room, ended}
+use Rattle.decode.proofs.Decoded.{lists-ask, ending-room, ended}
 use Rattle.decode.proofs.decode.Statement.{statement}
 use Rattle.decode.proofs.decode.Tie as tie
 
@@ -19,9 +19,10 @@ write-rest-requires c κs =
 add-end-rows : tie.Need-add-end-rows
 unfolding rulesMost
 add-end-rows c =
-    let start = c .before .before .before .before .before .before .before .before .before .before .before in
+    let rules = c .before .before .before .before .before .before .before in
+    let start = rules .before .before .before .before in
     let ran = sheet-ran (now (start .args .s)) (start .args .sheet) (start .pre .accepted) in
-    omega (arith, ran .count, ran .wellFormed .count)
+    omega (arith, rules .write-rules .ensures .few, ran .count, ran .wellFormed .count)
 
 end-rows-requires : tie.Need-end-rows-requires
 end-rows-requires c κs =

@@ -4,9 +4,11 @@ use mathlib.Core.Path.{_≡_, refl, sym, _∙_, ap, ap₂, subst}
 use mathlib.Core.List.{List, [], _∷_}
 use native.Mathlib.Omega.{arith}
 use lib.ListN.{length}
-use Rattle.rules.specs.Rule.{Weighted}
+use Rattle.rules.specs.Rule.{Weighted, ones}
 use Rattle.table.specs.inner.Words.{pairWidth}
-use Rattle.decode.specs.inner.Pairs.{withPairs, PairsFit, PairsCopied}
+use Rattle.repeats.specs.inner.Marks.{listMark}
+use Rattle.decode.specs.inner.Pairs.{withPairs, PairsFit, PairsCopied, ListCopied}
+use Rattle.decode.specs.declared.pairs.Reached.{Reached}
 use Rattle.decode.proofs.pairs.Laws.{pair-long, pairs-long}
 
 pub record PairsLeft (c₀ : List ℕ) (j₀ : ℕ) (ls₀ : List Weighted) (c : List ℕ) (j : ℕ) (ls : List Weighted) : Type 0 where
@@ -47,6 +49,11 @@ asks-as {c} {j} e h = subst (PairsFit c j) e h
 
 pub copied-as : {c d : List ℕ} {j k : ℕ} {ls ms : List Weighted} → ls ≡ ms → PairsCopied c j ms d k → PairsCopied c j ls d k
 copied-as {c} {d} {j} {k} e h = subst (λ (xs : List Weighted). PairsCopied c j xs d k) (sym e) h
+
+pub list-as :
+    {c d : List ℕ} {j m n : ℕ} {xs ys : List ℕ} {end : Reached} → xs ≡ ys → m ≡ n → ListCopied c j xs m d end → ListCopied c j ys n d end
+list-as e f h =
+    record { pairs = copied-as (ap ones (sym e)) (h .pairs); next = h .next ∙ f; mark = h .mark ∙ ap listMark e }
 
 pub copied-long : {c d : List ℕ} {j k : ℕ} {ls : List Weighted} → PairsCopied c j ls d k → length d ≡ length c
 copied-long {c} {j = j} {ls = ls} h = ap length (h .code) ∙ pairs-long c j ls

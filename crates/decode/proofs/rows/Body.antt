@@ -1,5 +1,5 @@
 -- A body is written list by list, each literal with weight 1, and then, where it is weighed, weight by weight: so its pairs are its
--- literals, and each list finds the room that the whole body has.
+-- literals, its mark is made of what was taken, and each list finds the room that the whole body has.
 use Prim.Native.Nat.{ℕ, _+_, _*_, _-_, _≤_}
 use mathlib.Core.Path.{_≡_, refl, sym, _∙_, ap, ap₂, subst}
 use mathlib.Core.Bool.{Bool, true, false}
@@ -7,18 +7,20 @@ use mathlib.Core.List.{List}
 use native.Mathlib.Omega.{arith}
 use lib.ListN.{length, length-map}
 use Rattle.rules.specs.Sum.{pick}
-use Rattle.rules.specs.Rule.{one, ones}
+use Rattle.rules.specs.Rule.{one, ones, atomsOf, weightsOf}
 use Rattle.numbers.specs.Lists.{numbersFrom}
 use Rattle.numbers.proofs.lists.Numbers.{numbers-count}
 use Rattle.sheet.specs.RuleMeaning.{paired}
-use Rattle.sheet.proofs.rule.Apart.{weigh-length}
+use Rattle.sheet.proofs.rule.Apart.{ones-atoms, weigh-atoms, weigh-weights, weigh-length}
 use Rattle.table.specs.inner.Words.{pairWidth}
+use Rattle.repeats.specs.inner.Marks.{listMark, blended, bodyMark}
 use Rattle.decode.specs.inner.Taken.{numbersPast, listTaken, listPast, literalsTaken, literalsPast, bodyTaken}
-use Rattle.decode.specs.inner.Pairs.{withPairs, withWeights, PairsFit, PairsCopied}
+use Rattle.decode.specs.inner.Pairs.{withPairs, withWeights, PairsFit, PairsCopied, ListCopied, WeightsCopied}
 use Rattle.decode.specs.inner.Rows.{BodyAsks, BodyPut}
 use Rattle.decode.specs.declared.pairs.Reached.{Reached}
+use Rattle.decode.specs.declared.pairs.WeightsEnd.{WeightsEnd}
 use Rattle.decode.specs.declared.rows.BodyEnds.{BodyEnds}
-use Rattle.decode.proofs.pairs.Copy.{asks-as, copied-as, copied-long}
+use Rattle.decode.proofs.pairs.Copy.{asks-as, list-as, copied-long}
 use Rattle.decode.proofs.pairs.Weights.{weights-on, weights-below, weights-long}
 
 -- weights over those of two lists, one after the other
@@ -37,8 +39,28 @@ unfolding literalsTaken pick
 literals-length s true xs at = weigh-length xs (numbersFrom (length xs) s at) (sym (numbers-count s (length xs) at))
 literals-length s false xs at = length-map xs one
 
-abbrev pub ends : ℕ → ℕ → ℕ → BodyEnds
-ends negatives end next = record { negatives = negatives; end = end; next = next }
+-- the mark of literals is that of the lists they were taken from
+literals-mark :
+    (s : List ℕ) (weighs : Bool) (xs ys : List ℕ) (m n : ℕ)
+    → bodyMark weighs (literalsTaken s weighs xs m) (literalsTaken s weighs ys n)
+    ≡ blended (listMark xs)
+    (pick weighs (blended (listMark ys) (blended (listMark (numbersFrom (length xs) s m)) (listMark (numbersFrom (length ys) s n)))) (listMark ys))
+unfolding bodyMark literalsTaken pick
+literals-mark s true xs ys m n =
+    let vs = numbersFrom (length xs) s m in
+    let ws = numbersFrom (length ys) s n in
+    let e : length xs ≡ length vs = sym (numbers-count s (length xs) m) in
+    let f : length ys ≡ length ws = sym (numbers-count s (length ys) n) in
+    let a : atomsOf (paired xs vs) ≡ xs = weigh-atoms xs vs e in
+    let b : atomsOf (paired ys ws) ≡ ys = weigh-atoms ys ws f in
+    let v : weightsOf (paired xs vs) ≡ vs = weigh-weights xs vs e in
+    let w : weightsOf (paired ys ws) ≡ ws = weigh-weights ys ws f in
+    cc
+literals-mark s false xs ys m n =
+    ap₂ (λ (us vs : List ℕ). blended (listMark us) (listMark vs)) (ones-atoms xs) (ones-atoms ys)
+
+abbrev pub ends : ℕ → ℕ → ℕ → ℕ → BodyEnds
+ends negatives end next mark = record { negatives = negatives; end = end; next = next; mark = mark }
 
 module _ (s : List ℕ) (weighs : Bool) (at : ℕ) (c : List ℕ) (j : ℕ) (asks : BodyAsks s weighs at c j) where
   abbrev xs : List ℕ
@@ -62,107 +84,138 @@ module _ (s : List ℕ) (weighs : Bool) (at : ℕ) (c : List ℕ) (j : ℕ) (ask
   unfolding pairWidth
   first-fits = record { room = omega (arith, room, length-map xs one) }
 
-  module _ {c₁ : List ℕ} (p : Reached) (first : PairsCopied c j (ones xs) c₁ (p .pair) × (p .next ≡ listPast s at)) where
+  module _ {c₁ : List ℕ} (p : Reached) (first : ListCopied c j xs (listPast s at) c₁ p) where
     middle : p .pair ≡ j + length xs
-    middle = omega (arith, first .0 .end, length-map xs one)
+    middle = omega (arith, first .pairs .end, length-map xs one)
 
     next-list : listTaken s (p .next) ≡ ys
-    next-list = ap (listTaken s) (first .1)
+    next-list = ap (listTaken s) (first .next)
 
     pub second-fits : PairsFit c₁ (p .pair) (ones (listTaken s (p .next)))
     unfolding pairWidth
     second-fits =
-        asks-as (ap ones (sym next-list)) (record { room = omega (arith, room, middle, length-map ys one, copied-long (first .0)) })
+        asks-as (ap ones (sym next-list)) (record { room = omega (arith, room, middle, length-map ys one, copied-long (first .pairs)) })
 
-    module _
-        {c₂ : List ℕ}
-        (q : Reached)
-        (second : PairsCopied c₁ (p .pair) (ones (listTaken s (p .next))) c₂ (q .pair) × (q .next ≡ listPast s (p .next)))
-      where
-        written : PairsCopied c₁ (p .pair) (ones ys) c₂ (q .pair)
-        written = copied-as (ap ones (sym next-list)) (second .0)
+    module _ {c₂ : List ℕ} (q : Reached) (next : ListCopied c₁ (p .pair) (listTaken s (p .next)) (listPast s (p .next)) c₂ q) where
+      second : ListCopied c₁ (p .pair) ys (listPast s (listPast s at)) c₂ q
+      second = list-as next-list (ap (listPast s) (first .next)) next
 
-        end : q .pair ≡ p .pair + length ys
-        end = omega (arith, written .end, length-map ys one)
+      written : PairsCopied c₁ (p .pair) (ones ys) c₂ (q .pair)
+      written = second .pairs
 
-        past : q .next ≡ listPast s (listPast s at)
-        past = second .1 ∙ ap (listPast s) (first .1)
+      end : q .pair ≡ p .pair + length ys
+      end = omega (arith, written .end, length-map ys one)
 
-        lists : c₂ ≡ withPairs (withPairs c j (ones xs)) (p .pair) (ones ys)
-        lists = written .code ∙ ap (λ (d : List ℕ). withPairs d (p .pair) (ones ys)) (first .0 .code)
+      abbrev place : ℕ
+      place = listPast s (listPast s at)
 
-        made :
-            {d : List ℕ} {next : ℕ} → d ≡ withPairs (withPairs c j (bodyTaken s weighs at .pos)) (p .pair) (bodyTaken s weighs at .neg)
-            → next ≡ bodyTaken s weighs at .next → BodyPut s weighs at c j d (ends (p .pair) (q .pair) next)
-        made e f =
-            let z : p .pair ≡ j + length (bodyTaken s weighs at .pos) = omega (arith, middle, pos-length) in
-            record {
-              code = e ∙ ap (λ (k : ℕ). withPairs (withPairs c j (bodyTaken s weighs at .pos)) k (bodyTaken s weighs at .neg)) z;
-              negatives = z;
-              end = omega (arith, end, middle, pos-length, neg-length);
-              next = f;
-            }
+      lists : c₂ ≡ withPairs (withPairs c j (ones xs)) (p .pair) (ones ys)
+      lists = written .code ∙ ap (λ (d : List ℕ). withPairs d (p .pair) (ones ys)) (first .pairs .code)
 
-        pub plain-put : weighs ≡ false → BodyPut s weighs at c j c₂ (ends (p .pair) (q .pair) (q .next))
-        unfolding bodyTaken literalsTaken literalsPast pick
-        plain-put e = made (simp e lists) (simp e past)
+      made :
+          {d : List ℕ} {next mark : ℕ} → d ≡ withPairs (withPairs c j (bodyTaken s weighs at .pos)) (p .pair) (bodyTaken s weighs at .neg)
+          → next ≡ bodyTaken s weighs at .next
+          → mark ≡ bodyMark weighs (bodyTaken s weighs at .pos) (bodyTaken s weighs at .neg)
+          → BodyPut s weighs at c j d (ends (p .pair) (q .pair) next mark)
+      made e f g =
+          let z : p .pair ≡ j + length (bodyTaken s weighs at .pos) = omega (arith, middle, pos-length) in
+          record {
+            code = e ∙ ap (λ (k : ℕ). withPairs (withPairs c j (bodyTaken s weighs at .pos)) k (bodyTaken s weighs at .neg)) z;
+            negatives = z;
+            end = omega (arith, end, middle, pos-length, neg-length);
+            next = f;
+            mark = g;
+          }
 
-        pub above-asks : (j ≤ p .pair) × (pairWidth * p .pair ≤ length c₂)
-        unfolding pairWidth
-        above-asks = (omega (arith, middle), omega (arith, room, middle, copied-long (first .0), copied-long written))
+      module _ (e : weighs ≡ false) where
+        plain-code : c₂ ≡ withPairs (withPairs c j (bodyTaken s weighs at .pos)) (p .pair) (bodyTaken s weighs at .neg)
+        unfolding bodyTaken literalsTaken pick
+        plain-code = simp e lists
 
-        module _
-            {c₃ : List ℕ}
-            {v : ℕ}
-            (above :
-            (c₃ ≡ withWeights c₂ j (numbersFrom (p .pair - j) s (q .next)))
-            × (v ≡ numbersPast (p .pair - j) s (q .next)))
-          where
-            pub below-asks : (p .pair ≤ q .pair) × (pairWidth * q .pair ≤ length c₃)
-            unfolding pairWidth
-            below-asks = (
-              omega (arith, end),
-              omega (
-                arith,
-                room,
-                middle,
-                end,
-                copied-long (first .0),
-                copied-long written,
-                ap length (above .0) ∙ weights-long c₂ j _,
-              ),
-            )
+        plain-next : q .next ≡ bodyTaken s weighs at .next
+        unfolding bodyTaken literalsPast pick
+        plain-next = simp e (second .next)
 
-            abbrev place : ℕ
-            place = listPast s (listPast s at)
+        plain-mark : blended (p .mark) (q .mark) ≡ bodyMark weighs (bodyTaken s weighs at .pos) (bodyTaken s weighs at .neg)
+        unfolding bodyTaken literalsPast pick
+        plain-mark =
+            ap₂ blended (first .mark) (second .mark)
+            ∙ sym (literals-mark s weighs xs ys place (literalsPast s weighs xs place) ∙ simp e refl)
 
-            abbrev vs : List ℕ
-            vs = numbersFrom (length xs) s place
+        pub plain-put :
+            {mark : ℕ} → mark ≡ blended (p .mark) (q .mark) → BodyPut s weighs at c j c₂ (ends (p .pair) (q .pair) (q .next) mark)
+        plain-put m = made plain-code plain-next (m ∙ plain-mark)
 
-            abbrev ws : List ℕ
-            ws = numbersFrom (length ys) s (numbersPast (length xs) s place)
+      pub above-asks : (j ≤ p .pair) × (pairWidth * p .pair ≤ length c₂)
+      unfolding pairWidth
+      above-asks = (omega (arith, middle), omega (arith, room, middle, copied-long (first .pairs), copied-long written))
 
-            vs-are : numbersFrom (p .pair - j) s (q .next) ≡ vs
-            vs-are = ap₂ (λ (k m : ℕ). numbersFrom k s m) (omega (arith, middle)) past
+      module _
+          {c₃ : List ℕ}
+          (v : WeightsEnd)
+          (above : WeightsCopied s (q .next) c₂ j (p .pair) c₃ v)
+        where
+          pub below-asks : (p .pair ≤ q .pair) × (pairWidth * q .pair ≤ length c₃)
+          unfolding pairWidth
+          below-asks = (
+            omega (arith, end),
+            omega (
+              arith,
+              room,
+              middle,
+              end,
+              copied-long (first .pairs),
+              copied-long written,
+              ap length (above .code) ∙ weights-long c₂ j _,
+            ),
+          )
 
-            v-is : v ≡ numbersPast (length xs) s place
-            v-is = above .1 ∙ ap₂ (λ (k m : ℕ). numbersPast k s m) (omega (arith, middle)) past
+          abbrev vs : List ℕ
+          vs = numbersFrom (length xs) s place
 
-            ws-are : numbersFrom (q .pair - p .pair) s v ≡ ws
-            ws-are = ap₂ (λ (k m : ℕ). numbersFrom k s m) (omega (arith, end)) v-is
+          abbrev ws : List ℕ
+          ws = numbersFrom (length ys) s (numbersPast (length xs) s place)
 
-            pub weighed-put :
-                weighs ≡ true → {d : List ℕ} {next : ℕ}
-                → (d ≡ withWeights c₃ (p .pair) (numbersFrom (q .pair - p .pair) s v))
-                × (next ≡ numbersPast (q .pair - p .pair) s v)
-                → BodyPut s weighs at c j d (ends (p .pair) (q .pair) next)
+          vs-are : numbersFrom (p .pair - j) s (q .next) ≡ vs
+          vs-are = ap₂ (λ (k m : ℕ). numbersFrom k s m) (omega (arith, middle)) (second .next)
+
+          v-is : v .next ≡ numbersPast (length xs) s place
+          v-is = above .next ∙ ap₂ (λ (k m : ℕ). numbersPast k s m) (omega (arith, middle)) (second .next)
+
+          ws-are : numbersFrom (q .pair - p .pair) s (v .next) ≡ ws
+          ws-are = ap₂ (λ (k m : ℕ). numbersFrom k s m) (omega (arith, end)) v-is
+
+          module _ (e : weighs ≡ true) {d : List ℕ} (w : WeightsEnd) (below : WeightsCopied s (v .next) c₃ (p .pair) (q .pair) d w) where
+            weighed-code : d ≡ withPairs (withPairs c j (bodyTaken s weighs at .pos)) (p .pair) (bodyTaken s weighs at .neg)
             unfolding bodyTaken literalsTaken literalsPast pick
-            weighed-put e below =
-                made
-                (below .0
+            weighed-code =
+                below .code
                 ∙ ap₂ (λ (d ws : List ℕ). withWeights d (p .pair) ws)
-                (above .0 ∙ ap₂ (λ (d vs : List ℕ). withWeights d j vs) lists vs-are)
+                (above .code ∙ ap₂ (λ (d vs : List ℕ). withWeights d j vs) lists vs-are)
                 ws-are
                 ∙ weigh-both c j (p .pair) xs ys vs ws middle (sym (numbers-count s (length xs) _)) (sym (numbers-count s (length ys) _))
-                ∙ sym (simp e refl))
-                (simp e (below .1 ∙ ap₂ (λ (k m : ℕ). numbersPast k s m) (omega (arith, end)) v-is))
+                ∙ sym (simp e refl)
+
+            weighed-next : w .next ≡ bodyTaken s weighs at .next
+            unfolding bodyTaken literalsPast pick
+            weighed-next = simp e (below .next ∙ ap₂ (λ (k m : ℕ). numbersPast k s m) (omega (arith, end)) v-is)
+
+            weighed-mark :
+                blended (p .mark) (blended (q .mark) (blended (v .mark) (w .mark)))
+                ≡ bodyMark weighs (bodyTaken s weighs at .pos) (bodyTaken s weighs at .neg)
+            unfolding bodyTaken literalsPast pick
+            weighed-mark =
+                let a : p .mark ≡ listMark xs = first .mark in
+                let b : q .mark ≡ listMark ys = second .mark in
+                let f : v .mark ≡ listMark vs = above .mark ∙ ap listMark vs-are in
+                let g : w .mark ≡ listMark ws = below .mark ∙ ap listMark ws-are in
+                let h :
+                blended (p .mark) (blended (q .mark) (blended (v .mark) (w .mark)))
+                ≡ blended (listMark xs) (blended (listMark ys) (blended (listMark vs) (listMark ws))) =
+                cc in
+                h ∙ sym (literals-mark s weighs xs ys place (literalsPast s weighs xs place) ∙ simp e refl)
+
+            pub weighed-put :
+                {mark : ℕ} → mark ≡ blended (p .mark) (blended (q .mark) (blended (v .mark) (w .mark)))
+                → BodyPut s weighs at c j d (ends (p .pair) (q .pair) (w .next) mark)
+            weighed-put m = made weighed-code weighed-next (m ∙ weighed-mark)

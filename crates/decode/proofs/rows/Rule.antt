@@ -10,18 +10,20 @@ use lib.ListN.{length, length-map}
 use borrow.Author.Tests.{eq-eqb, ne-eqb}
 use Rattle.rules.specs.Sum.{pick}
 use Rattle.rules.specs.Limits.{numberMost}
-use Rattle.rules.specs.Rule.{Rule, one, ones, weighted, kindNumber, choice, weight}
+use Rattle.rules.specs.Rule.{Rule, one, ones, kindNumber, choice, weight}
 use Rattle.numbers.specs.Number.{takenAt}
 use Rattle.numbers.specs.declared.Span.{Span}
 use Rattle.numbers.proofs.number.Taken.{taken-most}
 use Rattle.sheet.specs.shown.Encode.{rulesSize}
 use Rattle.table.specs.inner.Words.{rowWidth, pairWidth}
 use Rattle.table.specs.inner.Rows.{kindOf}
+use Rattle.repeats.specs.inner.Marks.{listMark, blended, bodyMark, ruleMark}
 use Rattle.decode.specs.inner.Taken.{listTaken, listPast, Body, bodyLength, restTaken, hasBound, headsTaken, headsPast, boundTaken, needTaken, ruleOf, ruleBound, ruleTaken, rulePast}
-use Rattle.decode.specs.inner.Pairs.{withPairs, PairsFit, PairsCopied}
+use Rattle.decode.specs.inner.Pairs.{withPairs, PairsFit, PairsCopied, ListCopied}
 use Rattle.decode.specs.inner.Rows.{positivesFrom, negativesFrom, endFrom, withBody, withRow, withRule, BodyPut, RowAsks, RestAsks, RestPut, RuleAsks, RulePut}
 use Rattle.decode.specs.declared.pairs.Reached.{Reached}
 use Rattle.decode.specs.declared.rows.BodyEnds.{BodyEnds}
+use Rattle.decode.proofs.Taken.{number-fits}
 use Rattle.decode.proofs.pairs.Laws.{pairs-long}
 use Rattle.decode.proofs.pairs.Copy.{asks-as, copied-as, copied-long}
 
@@ -44,7 +46,7 @@ bound-most s kind at = by (hasBound kind)
 -- the heads: of a choice a list, and of every other kind one atom
 module _ (s : List ℕ) (kind at : ℕ) where
   module _ (e : kind ≡ kindNumber choice) where
-    pub list-heads : ones (headsTaken s kind at) ≡ ones (listTaken s at)
+    pub list-heads : headsTaken s kind at ≡ listTaken s at
     unfolding headsTaken pick
     list-heads = simp (eq-eqb kind (kindNumber choice) e)
 
@@ -53,9 +55,9 @@ module _ (s : List ℕ) (kind at : ℕ) where
     list-past = simp (eq-eqb kind (kindNumber choice) e)
 
   module _ (f : kind ≡ kindNumber choice → ⊥) {p : Span} (e : p ≡ takenAt s at) where
-    pub one-head : ones (headsTaken s kind at) ≡ weighted (p .value) 1 ∷ []
+    pub one-head : headsTaken s kind at ≡ p .value ∷ []
     unfolding headsTaken pick
-    one-head = simp (ne-eqb kind (kindNumber choice) f) (ap (λ (q : Span). weighted (q .value) 1 ∷ []) (sym e))
+    one-head = simp (ne-eqb kind (kindNumber choice) f) (ap (λ (q : Span). q .value ∷ []) (sym e))
 
     pub one-past : p .next ≡ headsPast s kind at
     unfolding headsPast pick
@@ -91,9 +93,9 @@ module _ (s : List ℕ) (kind : ℕ) (bound : Span) (c : List ℕ) (i heads j : 
           }
 
       pub rest-put :
-          {d : List ℕ} → d ≡ withRow c₁ i kind need heads j (ends .negatives)
-          → RestPut s kind bound c i heads j d (record { pair = ends .end; next = ends .next })
-      rest-put e =
+          {d : List ℕ} {mark : ℕ} → d ≡ withRow c₁ i kind need heads j (ends .negatives) → mark ≡ blended need (ends .mark)
+          → RestPut s kind bound c i heads j d (record { pair = ends .end; next = ends .next; mark = mark })
+      rest-put e m =
           record {
             code =
                 e
@@ -101,6 +103,7 @@ module _ (s : List ℕ) (kind : ℕ) (bound : Span) (c : List ℕ) (i heads j : 
                 ∙ ap (withRow _ i kind _ heads j) (put .negatives);
             pair = put .end;
             place = put .next;
+            mark = m ∙ ap₂ blended need-is (put .mark);
           }
 
 -- the whole rule
@@ -109,26 +112,24 @@ module _ (s : List ℕ) (at : ℕ) (c : List ℕ) (i j : ℕ) (asks : RuleAsks s
   rule = ruleTaken s at
 
   module _ (k : Span) (taken : k ≡ takenAt s at) where
-    heads-are : ones (headsTaken s (k .value) (k .next)) ≡ ones (rule .heads)
+    heads-are : headsTaken s (k .value) (k .next) ≡ rule .heads
     unfolding ruleTaken
-    heads-are = ap (λ (q : Span). ones (headsTaken s (q .value) (q .next))) taken
+    heads-are = ap (λ (q : Span). headsTaken s (q .value) (q .next)) taken
 
     pub heads-fit : PairsFit c j (ones (headsTaken s (k .value) (k .next)))
     unfolding rulesSize pairWidth
     heads-fit =
-        asks-as (sym heads-are) (record { room = omega (arith, asks .room .pairs, length-map (rule .heads) one) })
+        asks-as (ap ones (sym heads-are)) (record { room = omega (arith, asks .room .pairs, length-map (rule .heads) one) })
 
     module _
         {c₁ : List ℕ}
         (h : Reached)
-        (heads :
-        PairsCopied c j (ones (headsTaken s (k .value) (k .next))) c₁ (h .pair)
-        × (h .next ≡ headsPast s (k .value) (k .next)))
+        (heads : ListCopied c j (headsTaken s (k .value) (k .next)) (headsPast s (k .value) (k .next)) c₁ h)
         (b : Span)
         (bound : b ≡ boundTaken s (k .value) (h .next))
       where
         written : PairsCopied c j (ones (rule .heads)) c₁ (h .pair)
-        written = copied-as (sym heads-are) (heads .0)
+        written = copied-as (ap ones (sym heads-are)) (heads .pairs)
 
         first : h .pair ≡ positivesFrom j rule
         unfolding positivesFrom
@@ -137,7 +138,7 @@ module _ (s : List ℕ) (at : ℕ) (c : List ℕ) (i j : ℕ) (asks : RuleAsks s
         bound-is : b ≡ ruleBound s at
         unfolding ruleBound
         bound-is =
-            bound ∙ ap (boundTaken s (k .value)) (heads .1)
+            bound ∙ ap (boundTaken s (k .value)) (heads .next)
             ∙ ap (λ (q : Span). boundTaken s (q .value) (headsPast s (q .value) (q .next))) taken
 
         body-is : restTaken s (k .value) b ≡ restTaken s (takenAt s at .value) (ruleBound s at)
@@ -152,13 +153,32 @@ module _ (s : List ℕ) (at : ℕ) (c : List ℕ) (i j : ℕ) (asks : RuleAsks s
               order = omega (arith, first);
               pairs = omega (arith, asks .room .pairs, first, l, copied-long written);
               few = omega (arith, asks .room .few, first, l);
-              kindMost = subst (λ (q : Span). q .value ≤ numberMost) (sym taken) (taken-most s at);
+              kindMost = number-fits s at taken;
               boundMost = subst (λ (q : Span). q .value ≤ numberMost) (sym bound) (bound-most s (k .value) (h .next));
             }
 
-        pub rule-put : {d : List ℕ} (end : Reached) → RestPut s (k .value) b c₁ i j (h .pair) d end → RulePut s at c i j d end
+        -- the need and the body have their mark, and the heads theirs
+        rest-mark :
+            blended (needTaken (k .value) (b .value) (bodyLength (restTaken s (k .value) b)))
+            (bodyMark (eqb (k .value) (kindNumber weight)) (restTaken s (k .value) b .pos) (restTaken s (k .value) b .neg))
+            ≡ blended (rule .need) (bodyMark (eqb (kindNumber (rule .kind)) (kindNumber weight)) (rule .pos) (rule .neg))
+        unfolding ruleTaken
+        rest-mark =
+            let y = body-is in
+            let z = bound-is in
+            let v : k .value ≡ takenAt s at .value = ap (λ (q : Span). q .value) taken in
+            let u = asks .kind in
+            cc
+
+        whole-mark : (end : Reached) → {d : List ℕ} → RestPut s (k .value) b c₁ i j (h .pair) d end → blended (h .mark) (end .mark) ≡ ruleMark rule
+        unfolding ruleMark
+        whole-mark end rest = ap₂ blended (heads .mark ∙ ap listMark heads-are) (rest .mark ∙ rest-mark)
+
+        pub rule-put :
+            {d : List ℕ} (end : Reached) {mark : ℕ} → RestPut s (k .value) b c₁ i j (h .pair) d end → mark ≡ blended (h .mark) (end .mark)
+            → RulePut s at c i j d (record { pair = end .pair; next = end .next; mark = mark })
         unfolding ruleTaken rulePast withRule withBody positivesFrom negativesFrom endFrom
-        rule-put end rest =
+        rule-put end rest m =
             let x = written .code in
             let y = body-is in
             let z = bound-is in
@@ -168,6 +188,7 @@ module _ (s : List ℕ) (at : ℕ) (c : List ℕ) (i j : ℕ) (asks : RuleAsks s
               code = cc (rest .code);
               pair = omega (arith, rest .pair, first, ap bodyLength body-is);
               place = rest .place ∙ ap (λ (d : Body). d .next) body-is;
+              mark = m ∙ whole-mark end rest;
             }
 
 -- a rule with no heads, of which only the rest is written

@@ -1,13 +1,18 @@
 -- "A body is a list of positive atoms and then a list of negated atoms." The words of a table after such a list was written from a
 -- pair on: for each literal its atom and its weight, one pair after another.
-use Prim.Native.Nat.{ℕ, _+_, _*_, _≤_}
+use Prim.Native.Nat.{ℕ, _+_, _*_, _-_, _≤_}
 use mathlib.Core.Path.{_≡_}
 use mathlib.Core.List.{List, [], _∷_}
 use lib.ListN.{length, set}
 use Rattle.rules.specs.Limits.{numberMost}
-use Rattle.rules.specs.Rule.{Weighted}
+use Rattle.rules.specs.Rule.{Weighted, ones}
+use Rattle.numbers.specs.Lists.{numbersFrom}
 use Rattle.table.specs.inner.Words.{pairWidth}
+use Rattle.repeats.specs.inner.Marks.{listMark}
 use Rattle.decode.specs.inner.Words.{withWords}
+use Rattle.decode.specs.inner.Taken.{numbersPast}
+use Rattle.decode.specs.declared.pairs.Reached.{Reached}
+use Rattle.decode.specs.declared.pairs.WeightsEnd.{WeightsEnd}
 
 unfoldable pub withPair : List ℕ → ℕ → ℕ → ℕ → List ℕ
 withPair c j atom weight = withWords c (pairWidth * j) (atom ∷ weight ∷ [])
@@ -35,3 +40,15 @@ pub record PairsFit (c : List ℕ) (j : ℕ) (ls : List Weighted) : Type 0 where
 pub record PairsCopied (c : List ℕ) (j : ℕ) (ls : List Weighted) (c′ : List ℕ) (next : ℕ) : Type 0 where
   pub code : c′ ≡ withPairs c j ls
   pub end : next ≡ j + length ls
+
+-- these atoms were written from pair j on, each with weight 1, and end at a place of the sheet; and their mark
+pub record ListCopied (c : List ℕ) (j : ℕ) (xs : List ℕ) (past : ℕ) (c′ : List ℕ) (end : Reached) : Type 0 where
+  pub pairs : PairsCopied c j (ones xs) c′ (end .pair)
+  pub next : end .next ≡ past
+  pub mark : end .mark ≡ listMark xs
+
+-- the weights that stand at a place of the sheet were written over those of the pairs from one to before another; and their mark
+pub record WeightsCopied (s : List ℕ) (first : ℕ) (c : List ℕ) (from to : ℕ) (c′ : List ℕ) (end : WeightsEnd) : Type 0 where
+  pub code : c′ ≡ withWeights c from (numbersFrom (to - from) s first)
+  pub next : end .next ≡ numbersPast (to - from) s first
+  pub mark : end .mark ≡ listMark (numbersFrom (to - from) s first)

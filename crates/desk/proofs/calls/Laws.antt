@@ -40,7 +40,7 @@ use Rattle.task.specs.inner.Perform.{ClosedFor, Comes, Performs, itemFrom}
 use Rattle.task.specs.declared.Answer.{Answer}
 use Rattle.task.proofs.bytes.Laws.{copied-side, copied-undecided}
 use Rattle.desk.specs.Promise.{Upon, Checks, Parts, Ends, Opens, PinEnds, Pins, SolveEnds, Solves, Tests, Margins, PinAsks, partIs}
-use Rattle.desk.specs.inner.Serve.{ServedBy, Serves, HandedMap, HandsMap, HandedModel, HandsModel}
+use Rattle.desk.specs.inner.Serve.{askedRule, ServedBy, Serves, HandedMap, HandsMap, HandedModel, HandsModel}
 use Rattle.desk.specs.declared.Checked.the-variants.{Accepted as AcceptedSheet, Refused as RefusedSheet}
 use Rattle.desk.specs.declared.Opened.{Opened}
 use Rattle.desk.specs.declared.Opened.the-variants.{Contradiction as Contradicted, Refused as RefusedMap}
@@ -74,7 +74,7 @@ pub record Performed (s : List ℕ) (g : Gate) (m w w′ : List ℕ) (a : Answer
   pub outline : Outline
   pub task : Task
   pub goes : g ≡ Go outline task
-  pub performs : Performs (sheetMeant s outline) m task w w′ a
+  pub performs : Performs (sheetMeant s outline) (askedRule (sheetMeant s outline) task) m task w w′ a
 
 module _ {s m w w′ : List ℕ} {g g′ : Gate} {r : Served} (is : g ≡ g′) (p : Serves s g m w w′ r) where
   pub stopped : (why : Refusal) → r ≡ Refused why → g′ ≡ Stop why
@@ -154,8 +154,8 @@ model-ends sh {a} {work} {m} {m′} {r} f e h =
     by false none (q, bytes) = subst (SolveEnds sh m m′) (sym q) (none, bytes)
 
 -- what a task came to, where the task is known
-pub came : {s m w w′ : List ℕ} {g : Gate} {a : Answer} (p : Performed s g m w w′ a) (t : Task) → p .task ≡ t → Comes (sheetMeant s (p .outline)) m t w′ a
-came {s} {m} {w} {w′} {g} {a} p t e = subst (λ (x : Task). Comes (sheetMeant s (p .outline)) m x w′ a) e (p .performs .comes)
+pub came : {s m w w′ : List ℕ} {g : Gate} {a : Answer} (p : Performed s g m w w′ a) (t : Task) → p .task ≡ t → Comes (sheetMeant s (p .outline)) (askedRule (sheetMeant s (p .outline)) t) m t w′ a
+came {s} {m} {w} {w′} {g} {a} p t e = subst (λ (x : Task). Comes (sheetMeant s (p .outline)) (askedRule (sheetMeant s (p .outline)) x) m x w′ a) e (p .performs .comes)
 
 -- a contradiction stays one
 stays :
@@ -208,7 +208,7 @@ module _ {s m w w′ : List ℕ} {a : Answer} where
       room : Room (a .atoms) w′ × Room (a .atoms) m
       room = rooms (λ o t g. pin-through s m x v g .lent) e p
 
-      as-is : (b : Bool) → isContradiction (p .outline .atoms) m ≡ b → Comes sh m (pick b Stay (Pin (record { number = x }) (eqb v 1))) w′ a
+      as-is : (b : Bool) → isContradiction (p .outline .atoms) m ≡ b → Comes sh (askedRule sh (pick b Stay (Pin (record { number = x }) (eqb v 1)))) m (pick b Stay (Pin (record { number = x }) (eqb v 1))) w′ a
       as-is b c =
           came p
           (pick b Stay (Pin (record { number = x }) (eqb v 1)))

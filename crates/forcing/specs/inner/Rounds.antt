@@ -13,11 +13,15 @@ use Rattle.forcing.specs.inner.Support.{Backed}
 use Rattle.forcing.specs.declared.Closing.{Closing}
 use Rattle.forcing.specs.declared.Closing.the-variants.{NoneHolds, ClosedWith}
 
--- the lowest undecided atom has this index; at n there is none
-pub record LowestAt (n : ℕ) (m : List ℕ) (i : ℕ) : Type 0 where
+-- the first of n bytes that is v has this index; at n there is none
+pub record FirstWith (v n : ℕ) (m : List ℕ) (i : ℕ) : Type 0 where
   pub within : i ≤ n
-  pub lower : (k : ℕ) → k < i → getD m k 0 ≡ 0 → ⊥
-  pub here : i < n → getD m i 0 ≡ 0
+  pub lower : (k : ℕ) → k < i → getD m k 0 ≡ v → ⊥
+  pub here : i < n → getD m i 0 ≡ v
+
+-- the lowest undecided atom has this index
+abbrev pub LowestAt : ℕ → List ℕ → ℕ → Type 0
+LowestAt n m i = FirstWith 0 n m i
 
 -- a step of the forcing rules on a table
 abbrev pub Forcing : List ℕ → ℕ → ℕ → (Map → Type 0) → List ℕ → List ℕ → Outcome → Type 0

@@ -1,6 +1,6 @@
 -- "2. An atom is in and exactly one rule with that head has reach at or above its need: each undecided literal of that body whose
--- weight taken from reach leaves less than the need is made true." "Repeated rules count as often as they stand on the sheet."
--- The rules that can still give an atom are counted for all atoms that are in at once, by atom.
+-- weight taken from reach leaves less than the need is made true." A table holds each rule once, so its rows are counted: for all atoms
+-- that are in at once, by atom.
 use Prim.Native.Nat.{ℕ, _+_, _≤_, _<_}
 use mathlib.Core.Path.{_≡_}
 use mathlib.Core.Bool.{Bool, true, false}
@@ -8,14 +8,18 @@ use mathlib.Core.List.{List, List·Memᴰ}
 use lib.Dec.{T}
 use lib.ListN.{length}
 use Rattle.rules.specs.Limits.{rulesMost}
-use Rattle.rules.specs.Sum.{counted, has}
+use Rattle.rules.specs.Sum.{counted, tally, has}
 use Rattle.rules.specs.Rule.{Rule, Weighted, Within, body}
 use Rattle.rules.specs.Map.{Map, side, is, reach, _⊑_}
-use Rattle.rules.specs.Forcing.{Closed, supports, supporters}
+use Rattle.rules.specs.Forcing.{Closed, supports}
 use Rattle.rules.specs.inner.Bytes.{MapBytes}
 use Rattle.table.specs.inner.Rows.{rowRule, tableRules, Row}
 use Rattle.weigh.specs.inner.Step.{Kept, Step, Till}
 use Rattle.weigh.specs.declared.Outcome.{Outcome}
+
+-- how many rules with this head have reach at or above their need
+abbrev pub supporters : ℕ → Map → List Rule → ℕ
+supporters a M P = tally (supports a M) (λ _. 1) P
 
 -- for each atom that is in, how many rules can still give it, and for any other 0; an atom's count stands where its byte stands in
 -- a map

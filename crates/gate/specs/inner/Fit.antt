@@ -1,5 +1,5 @@
--- What a task asks for, of n atoms and so many rules: an atom's number is an atom's, a rule's a rule's, and the lent map is such as
--- the gate of its call lets through.
+-- What a task asks for, of n atoms: an atom's number is an atom's, a rule's is as is asked of it, and the lent map is such as the gate of
+-- its call lets through.
 use Prim.Native.Nat.{ℕ}
 use mathlib.Core.Path.{_≡_}
 use mathlib.Core.List.{List}
@@ -20,17 +20,17 @@ abbrev pub AskFits : ℕ → List ℕ → Ask → Type 0
 AskFits n m Margin = Room n m
 AskFits n m (Part p i) = Unit
 
-abbrev pub TaskFits : ℕ → ℕ → List ℕ → Task → Type 0
-TaskFits n count m Stay = Unit
-TaskFits n count m Open = Unit
-TaskFits n count m (Pin atom side) = MapBytes n m × Within n (atom .number)
-TaskFits n count m Solve = Unit
-TaskFits n count m Test = Room n m × Whole n m
-TaskFits n count m (Rule rule ask) = Within count (rule .number) × AskFits n m ask
+abbrev pub TaskFits : ℕ → (ℕ → Type 0) → List ℕ → Task → Type 0
+TaskFits n R m Stay = Unit
+TaskFits n R m Open = Unit
+TaskFits n R m (Pin atom side) = MapBytes n m × Within n (atom .number)
+TaskFits n R m Solve = Unit
+TaskFits n R m Test = Room n m × Whole n m
+TaskFits n R m (Rule rule ask) = R (rule .number) × AskFits n m ask
 
 pub record Fit (s : List ℕ) (o : Outline) (m : List ℕ) (task : Task) : Type 0 where
   pub accepted : sheetRead s ≡ Accepted o
-  pub fits : TaskFits (o .atoms) (o .rules .value) m task
+  pub fits : TaskFits (o .atoms) (Within (o .rules .value)) m task
 
 -- a gate that lets a call go on only with such a task
 abbrev pub GateFits : List ℕ → Gate → List ℕ → Type 0

@@ -92,3 +92,18 @@ workedCases =
       model = numbers (1 ∷ 1 ∷ 1 ∷ 1 ∷ []);
     }
     ∷ []
+
+-- 2 may be chosen, these rules give 1, and 1 is pinned: both can be in
+abbrev pinnedOne : List Rule → List ℕ → WorkedCase
+pinnedOne rs m =
+    record { sheet = sheet 2 (choiceRule (2 ∷ []) [] [] ∷ rs); pins = signed true 1 ∷ []; map = numbers m; model = numbers (1 ∷ 1 ∷ []) }
+
+-- "Two copies of the only rule for an atom" force as one does; the same meaning in another kind is another rule, and nothing is forced
+unfoldable pub repeatCases : List WorkedCase
+repeatCases =
+    pinnedOne (basicRule 1 (2 ∷ []) [] ∷ []) (1 ∷ 1 ∷ [])
+    ∷ pinnedOne (basicRule 1 (2 ∷ []) [] ∷ basicRule 1 (2 ∷ []) [] ∷ []) (1 ∷ 1 ∷ [])
+    ∷ pinnedOne (basicRule 1 (2 ∷ []) [] ∷ constraintRule 1 1 (2 ∷ []) [] ∷ []) (1 ∷ 0 ∷ [])
+    ∷ pinnedOne (constraintRule 1 1 (2 ∷ []) [] ∷ weightRule 1 1 (weighted 2 1 ∷ []) [] ∷ []) (1 ∷ 0 ∷ [])
+    ∷ pinnedOne (weightRule 1 1 (weighted 2 1 ∷ []) [] ∷ weightRule 1 1 (weighted 2 2 ∷ []) [] ∷ []) (1 ∷ 0 ∷ [])
+    ∷ []

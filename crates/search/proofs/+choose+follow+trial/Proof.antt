@@ -62,7 +62,7 @@ choose-lowest-requires : (t : ℕ) → choose-lts.Need-lowest-requires (
   trial-below t,
   trial.Post,
 ) (choose-at t) choose.Post
-choose-lowest-requires t c κs = c .before .before .pre .1 .proper
+choose-lowest-requires t c κs = c .before .before .pre .1 .proper .room
 
 choose-returns : (t : ℕ) → choose-lts.Need-returns (
   lowest-reads.Asked,

@@ -85,9 +85,10 @@ pub record Row (c : List ℕ) (n i : ℕ) : Type 0 where
   pub need : needAt c i ≤ numberMost
   pub single : T (not (chooses (kindAt c i))) → positivesAt c i ≡ headsAt c i + 1
 
--- the table holds count rules over n atoms, and two compute lists
+-- the table holds count rules over n atoms, each once, and two compute lists
 pub record Laid (c : List ℕ) (n count : ℕ) : Type 0 where
   pub fewAtoms : n ≤ atomsMost
   pub fewRules : count ≤ rulesMost
   pub rows : (i : ℕ) → i < count → Row c n i
+  pub apart : (i k : ℕ) → i < count → k < count → rowRule c i ≡ rowRule c k → i ≡ k
   pub lists : Row c n count

@@ -1,14 +1,13 @@
 -- The tasks, put together: literals held and the map closed are the smallest closed map that holds both; the models above the opened
--- map are all that agree; and the rows of a table are the rules of its sheet.
-use Prim.Native.Nat.{ℕ, zero, suc, _+_, _-_, _≤_, _<_}
+-- map are all that agree; and what is asked of a rule is told.
+use Prim.Native.Nat.{ℕ, _≤_}
 use mathlib.Core.Path.{_≡_, refl, sym, _∙_, ap, subst}
 use mathlib.Core.Bool.{Bool, true, false, true≢false, false≢true}
 use mathlib.Core.List.{List, [], _∷_}
-use native.Mathlib.Omega.{arith}
-use lib.ListN.{length, getD}
+use lib.ListN.{length}
 use Rattle.rules.specs.inner.Search.{ModelOver}
 use Rattle.rules.specs.Limits.{atomsMost}
-use Rattle.rules.specs.Rule.{Rule, Sheet, Within, nthRule, noRule, partOf}
+use Rattle.rules.specs.Rule.{Rule, Sheet, Within, partOf}
 use Rattle.rules.specs.Stable.{Model, First}
 use Rattle.rules.specs.Map.{Map, Literal, Holding, Over, Whole, side, is, _⊑_, signed, margin, blank}
 use Rattle.rules.specs.Forcing.{Closed, Least, computed}
@@ -21,9 +20,8 @@ use Rattle.rules.proofs.Fits.{Numbered}
 use Rattle.rules.proofs.Maps.{want-decided}
 use Rattle.rules.proofs.Least.{least-same, contradiction-same}
 use Rattle.rules.proofs.First.{first-above, all-above, none-at-all}
-use Rattle.table.specs.inner.Rows.{rowRule, rowRules, tableSheet, Laid}
+use Rattle.table.specs.inner.Rows.{tableSheet, Laid}
 use Rattle.table.proofs.Rows.{laid-numbered}
-use Rattle.gate.specs.inner.Fit.{AskFits}
 use Rattle.gate.specs.declared.Ask.the-variants.{Margin, Part}
 use Rattle.gate.specs.declared.Ask.{Ask}
 use Rattle.gate.specs.declared.Task.{Task}
@@ -36,7 +34,7 @@ use Rattle.forcing.specs.declared.Closing.the-variants.{NoneHolds, ClosedWith}
 use Rattle.search.specs.inner.Search.{Standing, FirstIn, Answers}
 use Rattle.task.specs.inner.Copy.{Copied}
 use Rattle.task.specs.inner.Hold.{Takes}
-use Rattle.task.specs.inner.Perform.{answer, ClosedFor, Finishes, Searches, Comes, Performs, Told, Tells, TellAsks, itemFrom}
+use Rattle.task.specs.inner.Perform.{answer, ClosedFor, Finishes, Searches, Comes, Performs, Told, Tells, itemFrom}
 use Rattle.task.specs.declared.Answer.{Answer}
 use Rattle.task.proofs.bytes.Laws.{copied-side}
 
@@ -100,26 +98,6 @@ blank-fits {n} e few = subst (MapBytes n) (sym e) (blank-proper atomsMost n few)
 
 pub whole-map : {n : ℕ} {m : List ℕ} → Room n m → Whole n m → MapBytes n m
 whole-map room whole = record { room = room; sides = λ i h. whole i h .high }
-
--- the rules of a table by their rows
-row-rule : (c : List ℕ) (count i k x : ℕ) (d : Rule) → k < count → i + k ≡ x → getD (rowRules c count i) k d ≡ rowRule c x
-unfolding rowRules
-row-rule c zero i k x d h e = absurd (omega arith)
-row-rule c (suc count) i zero x d h e = let q : i ≡ x = omega arith in ap (rowRule c) q
-row-rule c (suc count) i (suc k) x d h e = row-rule c count (suc i) k x d (omega arith) (omega arith)
-
-pub numbered-row : (c : List ℕ) (n count k : ℕ) → Within count k → rowRule c (k - 1) ≡ nthRule (tableSheet c n count) k
-numbered-row c n count k w =
-    sym (row-rule c count 0 (k - 1) (k - 1) noRule (omega (arith, w .low, w .high)) (omega arith))
-
-pub tell-asks :
-    {c : List ℕ} {n count k : ℕ} {ask : Ask} {m : List ℕ} → Laid c n count → Within count k → AskFits n m ask → TellAsks c n k ask m
-tell-asks laid w f =
-    record {
-      within = record { low = w .low; high = omega (arith, w .high, laid .fewRules) };
-      row = laid .rows _ (omega (arith, w .low, w .high));
-      fits = f;
-    }
 
 -- the models above the opened map are all that agree
 module _ {c : List ℕ} {n count : ℕ} (laid : Laid c n count) where
@@ -191,15 +169,15 @@ copied-over sh {m} {w} {w₁} {w′} {a} k ps f =
     (f .closed)
 
 -- each task
-module _ (sh : Sheet) (m : List ℕ) {t : Task} {w w′ : List ℕ} {a : Answer} where
+module _ (sh : Sheet) (r : Rule) (m : List ℕ) {t : Task} {w w′ : List ℕ} {a : Answer} where
   by-task :
-      {t′ : Task} → t ≡ t′ → a .atoms ≡ sh .atoms → length w′ ≡ length w → Comes sh m t′ w′ a → Performs sh m t w w′ a
+      {t′ : Task} → t ≡ t′ → a .atoms ≡ sh .atoms → length w′ ≡ length w → Comes sh r m t′ w′ a → Performs sh r m t w w′ a
   by-task e atoms long c =
-      record { atoms = atoms; long = long; comes = subst (λ (x : Task). Comes sh m x w′ a) (sym e) c }
+      record { atoms = atoms; long = long; comes = subst (λ (x : Task). Comes sh r m x w′ a) (sym e) c }
 
   pub performs-open :
       t ≡ Open → w ≡ blank → sh .atoms ≤ atomsMost → Finishes sh (Over (side (sh .atoms) w) (computed sh)) w w′ a
-      → Performs sh m t w w′ a
+      → Performs sh r m t w w′ a
   performs-open e b few f = by-task e (f .atoms) (f .kept .long) (by (a .found) (f .closed))
     where
       held : (X : Map) → Holding (computed sh) X → Over (side (sh .atoms) w) (computed sh) X
@@ -213,64 +191,44 @@ module _ (sh : Sheet) (m : List ℕ) {t : Task} {w w′ : List ℕ} {a : Answer}
           (least-same (Over (side (sh .atoms) w) (computed sh)) (Holding (computed sh)) (λ X q. q .holds) held l, k)
       by false none = contradiction-same (Over (side (sh .atoms) w) (computed sh)) (Holding (computed sh)) held none
 
-  pub performs-solve : t ≡ Solve → Searches sh w w′ a → Performs sh m t w w′ a
+  pub performs-solve : t ≡ Solve → Searches sh w w′ a → Performs sh r m t w w′ a
   performs-solve e f = by-task e (f .atoms) (f .long) (f .first)
 
   -- on a copy of the lent map
   module _ {w₁ : List ℕ} (k : Copied (sh .atoms) m w w₁) where
     pub performs-pin :
         (atom : Atom) (s : Bool) → t ≡ Pin atom s → Finishes sh (Over (side (sh .atoms) w₁) (signed s (atom .number) ∷ [])) w₁ w′ a
-        → Performs sh m t w w′ a
+        → Performs sh r m t w w′ a
     performs-pin atom s e f = by-task e (f .atoms) (f .kept .long ∙ k .written .long) (copied-over sh k (signed s (atom .number) ∷ []) f)
 
-    pub performs-test : t ≡ Test → Finishes sh (Over (side (sh .atoms) w₁) (computed sh)) w₁ w′ a → Performs sh m t w w′ a
+    pub performs-test : t ≡ Test → Finishes sh (Over (side (sh .atoms) w₁) (computed sh)) w₁ w′ a → Performs sh r m t w w′ a
     performs-test e f = by-task e (f .atoms) (f .kept .long ∙ k .written .long) (copied-over sh k (computed sh) f)
 
-pub performs-stay : (sh : Sheet) (m : List ℕ) {t : Task} {w : List ℕ} {a : Answer} → t ≡ Stay → a ≡ answer (sh .atoms) false 0 → Performs sh m t w w a
-performs-stay sh m {t} {w} e is = subst (Performs sh m t w w) (sym is) (by-task sh m e refl refl refl)
+pub performs-stay :
+    (sh : Sheet) (r : Rule) (m : List ℕ) {t : Task} {w : List ℕ} {a : Answer} → t ≡ Stay → a ≡ answer (sh .atoms) false 0
+    → Performs sh r m t w w a
+performs-stay sh r m {t} {w} e is = subst (Performs sh r m t w w) (sym is) (by-task sh r m e refl refl refl)
 
 pub performs-rule :
-    (c : List ℕ) (n count : ℕ) (m : List ℕ) {t : Task} {w : List ℕ} {a : Answer} (rule : RuleNo) (ask : Ask) → t ≡ RuleTask rule ask
-    → Within count (rule .number) → Told (rowRule c (rule .number - 1)) n (side n m) ask a → Performs (tableSheet c n count) m t w w a
-performs-rule c n count m {a = a} rule ask e h f =
-    by-task
-    (tableSheet c n count)
-    m
-    e
-    (f .atoms)
-    refl
-    (subst (λ (r : Rule). Tells r (side n m) ask a) (numbered-row c n count (rule .number) h) (f .tells))
+    (sh : Sheet) (r : Rule) (m : List ℕ) {t : Task} {w : List ℕ} {a : Answer} (rule : RuleNo) (ask : Ask) → t ≡ RuleTask rule ask
+    → Told r (sh .atoms) (side (sh .atoms) m) ask a → Performs sh r m t w w a
+performs-rule sh r m rule ask e f = by-task sh r m e (f .atoms) refl (f .tells)
 
--- what is asked of a rule, whose row is j
-module _ (c : List ℕ) (n k j : ℕ) (M : Map) (e : j ≡ k) where
-  pub told-margin : {ask : Ask} (a : Answer) → ask ≡ Margin → a .atoms ≡ n → a .margin ≡ margin (rowRule c (j - 1)) M → Told (rowRule c (k - 1)) n M ask a
-  told-margin a is atoms h =
-      record {
-        atoms = atoms;
-        tells =
-            subst
-            (λ (x : Ask). Tells (rowRule c (k - 1)) M x a)
-            (sym is)
-            (h ∙ ap (λ (i : ℕ). margin (rowRule c (i - 1)) M) e);
-      }
+-- what is asked of a rule
+module _ (r : Rule) (n : ℕ) (M : Map) where
+  pub told-margin : {ask : Ask} (a : Answer) → ask ≡ Margin → a .atoms ≡ n → a .margin ≡ margin r M → Told r n M ask a
+  told-margin a is atoms h = record { atoms = atoms; tells = subst (λ (x : Ask). Tells r M x a) (sym is) h }
 
-  module _ {ask : Ask} (p i : ℕ) (is : ask ≡ Part p i) {x : Item} (h : x ≡ partOf (rowRule c (j - 1)) p i) where
-    told : (b : Bool) (number : ℕ) {a : Answer} → x ≡ itemFrom b number → a ≡ answer n b number → Told (rowRule c (k - 1)) n M ask a
+  module _ {ask : Ask} (p i : ℕ) (is : ask ≡ Part p i) {x : Item} (h : x ≡ partOf r p i) where
+    told : (b : Bool) (number : ℕ) {a : Answer} → x ≡ itemFrom b number → a ≡ answer n b number → Told r n M ask a
     told b number {a} q g =
         subst
-        (Told (rowRule c (k - 1)) n M ask)
+        (Told r n M ask)
         (sym g)
-        (record {
-          atoms = refl;
-          tells =
-              subst
-              (λ (y : Ask). Tells (rowRule c (k - 1)) M y (answer n b number))
-              (sym is)
-              (sym q ∙ h ∙ ap (λ (l : ℕ). partOf (rowRule c (l - 1)) p i) e);
-        })
+        (record { atoms = refl; tells = subst (λ (y : Ask). Tells r M y (answer n b number)) (sym is) (sym q ∙ h) })
 
-    pub told-part : (number : ℕ) {a : Answer} → x ≡ Is number → a ≡ answer n true number → Told (rowRule c (k - 1)) n M ask a
+    pub told-part : (number : ℕ) {a : Answer} → x ≡ Is number → a ≡ answer n true number → Told r n M ask a
     told-part number q g = told true number q g
 
-    pub told-nothing : {a : Answer} → x ≡ Nothing → a ≡ answer n false 0 → Told (rowRule c (k - 1)) n M ask a
+    pub told-nothing : {a : Answer} → x ≡ Nothing → a ≡ answer n false 0 → Told r n M ask a
     told-nothing q g = told false 0 q g

@@ -1,12 +1,11 @@
 -- What each task comes to: the smallest closed map that answers a question, a first model, or what is asked of a rule.
-use Prim.Native.Nat.{ℕ, _-_}
+use Prim.Native.Nat.{ℕ}
 use mathlib.Core.Path.{_≡_}
 use mathlib.Core.Bool.{Bool, true, false}
 use mathlib.Core.List.{List, [], _∷_}
 use lib.ListN.{length}
 use lib.IntN.{pos}
-use Rattle.rules.specs.Limits.{rulesMost}
-use Rattle.rules.specs.Rule.{Rule, Sheet, Within, nthRule, partOf}
+use Rattle.rules.specs.Rule.{Rule, Sheet, partOf}
 use Rattle.rules.specs.Stable.{Model}
 use Rattle.rules.specs.Map.{Map, Holding, Over, side, signed, margin, undecided}
 use Rattle.rules.specs.Forcing.{Closed, Least, Contradiction, computed}
@@ -54,22 +53,22 @@ pub record Told (r : Rule) (n : ℕ) (M : Map) (ask : Ask) (a : Answer) : Type 0
   pub atoms : a .atoms ≡ n
   pub tells : Tells r M ask a
 
-pub record TellAsks (c : List ℕ) (n k : ℕ) (ask : Ask) (m : List ℕ) : Type 0 where
-  pub within : Within rulesMost k
-  pub row : Row c n (k - 1)
+pub record TellAsks (c : List ℕ) (n i : ℕ) (ask : Ask) (m : List ℕ) : Type 0 where
+  pub row : Row c n i
   pub fits : AskFits n m ask
 
-abbrev pub Comes : Sheet → List ℕ → Task → List ℕ → Answer → Type 0
-Comes sh m Stay m′ a = a .found ≡ false
-Comes sh m Open m′ a = ClosedFor sh (Holding (computed sh)) m′ (a .found) (a .number)
-Comes sh m (Pin atom inside) m′ a =
+-- of a sheet, and of the rule that is asked of, where one is
+abbrev pub Comes : Sheet → Rule → List ℕ → Task → List ℕ → Answer → Type 0
+Comes sh r m Stay m′ a = a .found ≡ false
+Comes sh r m Open m′ a = ClosedFor sh (Holding (computed sh)) m′ (a .found) (a .number)
+Comes sh r m (Pin atom inside) m′ a =
     ClosedFor sh (Over (side (sh .atoms) m) (signed inside (atom .number) ∷ [])) m′ (a .found) (a .number)
-Comes sh m Solve m′ a = FirstIn (sh .atoms) (Model sh) (a .found) m′
-Comes sh m Test m′ a = ClosedFor sh (Over (side (sh .atoms) m) (computed sh)) m′ (a .found) (a .number)
-Comes sh m (RuleTask rule ask) m′ a = Tells (nthRule sh (rule .number)) (side (sh .atoms) m) ask a
+Comes sh r m Solve m′ a = FirstIn (sh .atoms) (Model sh) (a .found) m′
+Comes sh r m Test m′ a = ClosedFor sh (Over (side (sh .atoms) m) (computed sh)) m′ (a .found) (a .number)
+Comes sh r m (RuleTask rule ask) m′ a = Tells r (side (sh .atoms) m) ask a
 
 -- the lent map m, and the map that is worked on before and after
-pub record Performs (sh : Sheet) (m : List ℕ) (task : Task) (w w′ : List ℕ) (a : Answer) : Type 0 where
+pub record Performs (sh : Sheet) (r : Rule) (m : List ℕ) (task : Task) (w w′ : List ℕ) (a : Answer) : Type 0 where
   pub atoms : a .atoms ≡ sh .atoms
   pub long : length w′ ≡ length w
-  pub comes : Comes sh m task w′ a
+  pub comes : Comes sh r m task w′ a

@@ -16,12 +16,15 @@ pub fn subsets(desk: &Desk, seed: u64) -> Outcome {
     let mut draw = Draw::new("subsets", seed);
     let atoms = if seed.is_multiple_of(5) { definition::MOST_ATOMS_FOR_SUBSETS } else { 8 };
     let sheet = generator::sheet(&mut draw, Size { atoms, rules: 2 * atoms, body: 3 });
-    let bytes = sheet.bytes();
-    let table = Table { desk, sheet: &bytes };
-    let models = models_as_maps(&sheet);
-    solve_is_first(&table, &models, sheet.atoms)?;
-    test_is_membership(&table, &models, sheet.atoms)?;
-    forcing_keeps_models(&table, &models, sheet.atoms, &mut draw)
+    over_all_subsets(&Table { desk, sheet: &sheet.bytes() }, &sheet, &mut draw)
+}
+
+/// Solve, test, open and pin on a small sheet against all subsets.
+pub fn over_all_subsets(table: &Table, sheet: &Sheet, draw: &mut Draw) -> Outcome {
+    let models = models_as_maps(sheet);
+    solve_is_first(table, &models, sheet.atoms)?;
+    test_is_membership(table, &models, sheet.atoms)?;
+    forcing_keeps_models(table, &models, sheet.atoms, draw)
 }
 
 /// The agreeing stable models of a small sheet as maps, in order.
@@ -88,10 +91,13 @@ pub fn closed_maps(desk: &Desk, seed: u64) -> Outcome {
     let mut draw = Draw::new("closed maps", seed);
     let atoms = definition::MOST_ATOMS_FOR_MAPS;
     let sheet = generator::sheet(&mut draw, Size { atoms, rules: 9, body: 3 });
-    let bytes = sheet.bytes();
-    let table = Table { desk, sheet: &bytes };
-    let opened = match compute_map(&sheet) {
-        Some(base) => definition::smallest_closed_map(&sheet, &base),
+    over_all_maps(&Table { desk, sheet: &sheet.bytes() }, &sheet, &mut draw)
+}
+
+/// Open, pin and margin on a small sheet against all maps.
+pub fn over_all_maps(table: &Table, sheet: &Sheet, draw: &mut Draw) -> Outcome {
+    let opened = match compute_map(sheet) {
+        Some(base) => definition::smallest_closed_map(sheet, &base),
         None => None,
     };
     table.answers(Call::Open, &vec![7; sheet.atoms], &closed_answer(opened, sheet.atoms))?;
@@ -99,9 +105,9 @@ pub fn closed_maps(desk: &Desk, seed: u64) -> Outcome {
         return Ok(());
     }
     for _ in 0..4 {
-        pin_is_smallest(&table, &sheet, &mut draw)?;
+        pin_is_smallest(table, sheet, draw)?;
     }
-    margins_are_reach_less_need(&table, &sheet, &mut draw)
+    margins_are_reach_less_need(table, sheet, draw)
 }
 
 fn pin_is_smallest(table: &Table, sheet: &Sheet, draw: &mut Draw) -> Outcome {

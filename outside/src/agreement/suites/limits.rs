@@ -11,7 +11,7 @@ use crate::sheet::{
 };
 
 /// What stands at a limit, just below and just above it.
-pub const LIMITS: [fn(&Desk) -> Outcome; 11] = [
+pub const LIMITS: [fn(&Desk) -> Outcome; 12] = [
     wide_numbers,
     map_length,
     rule_count,
@@ -21,6 +21,7 @@ pub const LIMITS: [fn(&Desk) -> Outcome; 11] = [
     widest_margins,
     longest_bodies,
     longest_chain,
+    most_repeats,
     deepest_search,
     sheet_length,
 ];
@@ -215,6 +216,34 @@ fn longest_chain(desk: &Desk) -> Outcome {
     for last in [fact, close] {
         let rules = [&links[..], &[last]].concat();
         on_long_map(desk, &Sheet { atoms: MOST_ATOMS, rules, ..Sheet::default() }.bytes())?;
+    }
+    Ok(())
+}
+
+/// As many copies of a rule as there can be, and two of the longest rules: if
+/// the last of them is the same, the body is forced, and if it differs,
+/// nothing is.
+fn most_repeats(desk: &Desk) -> Outcome {
+    let long = |last: u32| {
+        let weighed = (2..=MOST_ATOMS).map(|atom| (atom, if atom == MOST_ATOMS { last } else { 1 }));
+        weight(1, MOST_ATOMS as u32 - 1, &weighed.collect::<Vec<_>>(), &[])
+    };
+    let copies = vec![basic(1, &[2], &[]); MOST_RULES - 2];
+    let cases = [
+        (2, copies.clone(), basic(1, &[2], &[]), 1),
+        (2, copies, constraint(1, 1, &[2], &[]), 0),
+        (MOST_ATOMS, vec![long(1)], long(1), MOST_ATOMS - 1),
+        (MOST_ATOMS, vec![long(1)], long(2), 0),
+    ];
+    for (atoms, rules, last, forced) in cases {
+        let free = choice(&(2..=atoms).collect::<Vec<_>>(), &[], &[]);
+        let rules = [vec![free], rules, vec![last]].concat();
+        let sheet = Sheet { atoms, rules, compute_in: vec![1], compute_out: vec![] }.bytes();
+        let mut map = vec![0; atoms];
+        map[..=forced].fill(1);
+        let wanted = After { code: Answer::Closed { undecided: atoms - 1 - forced }.code(), map };
+        Table { desk, sheet: &sheet }.answers(Call::Open, &vec![9; atoms], &wanted)?;
+        on_long_map(desk, &sheet)?;
     }
     Ok(())
 }

@@ -5,6 +5,7 @@ mod definitions;
 mod limits;
 mod orders;
 mod parts;
+mod repeats;
 
 use super::compare::Disagreement;
 use crate::desk::Desk;
@@ -12,6 +13,7 @@ use calls::{any_bytes, bounds, damaged, large, long_numbers, one_byte, short_str
 use definitions::{closed_maps, subsets};
 use limits::{LIMITS, limits};
 use orders::{pin_walks, shuffled};
+use repeats::repeats;
 
 /// A way to hold a desk against plain or against the definitions.
 #[derive(Clone, Copy)]
@@ -28,7 +30,7 @@ pub struct Suite {
 pub type Outcome = Result<(), Disagreement>;
 
 /// All suites.
-pub const SUITES: [Suite; 13] = [
+pub const SUITES: [Suite; 14] = [
     Suite { name: "short strings", seeds: 256, is_complete: true, run: short_strings },
     Suite { name: "any bytes", seeds: 60_000, is_complete: false, run: any_bytes },
     Suite { name: "well formed", seeds: 30_000, is_complete: false, run: well_formed },
@@ -42,4 +44,5 @@ pub const SUITES: [Suite; 13] = [
     Suite { name: "closed maps", seeds: 5_000, is_complete: false, run: closed_maps },
     Suite { name: "shuffled", seeds: 12_000, is_complete: false, run: shuffled },
     Suite { name: "pin walks", seeds: 12_000, is_complete: false, run: pin_walks },
+    Suite { name: "repeats", seeds: 6_000, is_complete: false, run: repeats },
 ];

@@ -22,18 +22,25 @@ pub fn shuffled(desk: &Desk, seed: u64) -> Outcome {
         let solved = table.made(Call::Solve, &map)?;
         other_table.answers(Call::Solve, &map, &solved)?;
     }
-    let pins = (0..draw.between(0, 4)).map(|_| (generator::atom(&mut draw, sheet.atoms), draw.pick(&[1, 2])));
+    ends_alike(&[table, other_table], sheet.atoms, &mut draw)
+}
+
+/// Some pins on one sheet, and on another sheet with the same rules the same
+/// pins in another order, with repeats and refused pins between, end in equal
+/// maps.
+pub fn ends_alike([table, other]: &[Table; 2], atoms: usize, draw: &mut Draw) -> Outcome {
+    let pins = (0..draw.between(0, 4)).map(|_| (generator::atom(draw, atoms), draw.pick(&[1, 2])));
     let pins = pins.collect::<Vec<_>>();
-    let last = walk(&table, sheet.atoms, &pins)?;
-    let mut mixed =
-        [&pins[..], &pins[..pins.len() / 2], &[(0, 1), (sheet.atoms as u64 + 1, 2), (1, 0), (1, 3)]].concat();
+    let last = walk(table, atoms, &pins)?;
+    let refused = [(0, 1), (atoms as u64 + 1, 2), (1, 0), (1, 3)];
+    let mut mixed = [&pins[..], &pins[..pins.len() / 2], &refused].concat();
     draw.shuffle(&mut mixed);
-    let other_last = walk(&other_table, sheet.atoms, &mixed)?;
+    let other_last = walk(other, atoms, &mixed)?;
     if last == other_last {
         return Ok(());
     }
     let what = format!("pins {pins:?} lead to {last:?};\nin another order, {mixed:?}, to {other_last:?}");
-    Err(other_table.disagreement(Call::Open, &[], &what))
+    Err(other.disagreement(Call::Open, &[], &what))
 }
 
 /// The map after open and some pins.

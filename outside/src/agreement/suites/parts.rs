@@ -14,10 +14,16 @@ pub fn every_part(desk: &Desk, sheet: &Sheet, draw: &mut Draw) -> Outcome {
     let table = Table { desk, sheet: &bytes };
     for (index, rule) in sheet.rules.iter().enumerate() {
         if index < 2 || draw.chance(1, 40) {
-            for (part, values) in parts(rule).iter().enumerate() {
-                part_values(&table, index as u64 + 1, part as u64, values)?;
-            }
+            every_part_of(&table, index as u64 + 1, rule)?;
         }
+    }
+    Ok(())
+}
+
+/// Every part of the rule with this number.
+pub fn every_part_of(table: &Table, number: u64, rule: &Rule) -> Outcome {
+    for (part, values) in parts(rule).iter().enumerate() {
+        part_values(table, number, part as u64, values)?;
     }
     Ok(())
 }

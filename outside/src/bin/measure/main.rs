@@ -1,15 +1,25 @@
 //! Times the archive ("ours", where it is linked) and the plain solver in
-//! one run and prints two tables: calls that solve and open, and calls that
-//! mostly read.
+//! one run and prints three tables: calls that solve and open, calls that
+//! mostly read, and calls on sheets where repeats have to be looked for.
 //!
 //!     cargo run --release --bin measure [--features archive] [-- --write FILE]
 //!
 //! `--write FILE` puts each table between its two marker lines of a file, and
 //! makes the file with the marker lines where there is none. Every call is
 //! made on both desks, and their answers and maps must be equal.
+//!
+//! `--times FILE` times ours alone, open and solve of every sheet, and writes
+//! a line for each: sheet, call and nanoseconds, with tabs between. Where the
+//! file has times already, the lesser ones stay. The answers are not looked
+//! at, so that an archive that answers otherwise can be timed too. `--times
+//! FILE --against OLD` then prints the ratio of these times to those of the
+//! file OLD, and the worst of them; `--against OLD NEW` does so for two files
+//! that are there.
 
 mod problems;
+mod repeats;
 mod tables;
+mod times;
 
 use outside::answer::Answer;
 use outside::desk::Desk;
@@ -29,27 +39,59 @@ fn main() -> ExitCode {
         eprintln!("measure: not a release build; the times say little");
     }
     let arguments = env::args().skip(1).collect::<Vec<_>>();
-    let file = match arguments.iter().map(String::as_str).collect::<Vec<_>>()[..] {
-        [] => None,
-        ["--write", file] => Some(file.to_string()),
-        _ => {
-            eprintln!("use: measure [--write FILE]");
-            return ExitCode::FAILURE;
-        }
+    let done = match arguments.iter().map(String::as_str).collect::<Vec<_>>()[..] {
+        [] => measure(None),
+        ["--write", file] => measure(Some(file)),
+        ["--times", file] => take_times(file),
+        ["--times", file, "--against", old] => take_times(file).and_then(|()| compare(old, file)),
+        ["--against", old, new] => compare(old, new),
+        _ => Err("use: measure [--write FILE | --times FILE [--against OLD] | --against OLD NEW]".to_string()),
     };
-    let mut rows = problems::reading().iter().map(measured).collect::<Vec<_>>();
-    let reading = tables::speeds(&rows);
-    let solving = problems::solving().iter().map(measured).collect::<Vec<_>>();
-    let measures = tables::times(&solving);
-    rows.extend(solving);
-    println!("\n{measures}\n{reading}\n{}", tables::verdict(&rows));
-    match file.map(|file| tables::write(&file, &[("measures", measures), ("reading", reading)])) {
-        Some(Err(error)) => {
-            eprintln!("measure: {error}");
+    match done {
+        Ok(()) => ExitCode::SUCCESS,
+        Err(message) => {
+            eprintln!("measure: {message}");
             ExitCode::FAILURE
         }
-        _ => ExitCode::SUCCESS,
     }
+}
+
+/// Times both desks, prints the tables, and writes them where there is a file.
+fn measure(file: Option<&str>) -> Result<(), String> {
+    let measured = |problems: Vec<Problem>| problems.iter().map(measured).collect::<Vec<_>>();
+    let (reading, solving, repeats) =
+        (measured(problems::reading()), measured(problems::solving()), measured(repeats::repeats()));
+    let heads = tables::within(&repeats, (repeats::ONE_HEAD, repeats::MANY_HEADS), MOST_FOR_ONE_HEAD);
+    let tables = [
+        ("measures", tables::times(&solving)),
+        ("reading", tables::speeds(&reading)),
+        ("repeats", format!("{}\n{heads}", tables::times(&repeats))),
+    ];
+    for (_, table) in &tables {
+        println!("\n{table}");
+    }
+    println!("{}", tables::verdict(&[reading, solving, repeats].concat()));
+    match file {
+        Some(file) => tables::write(file, &tables).map_err(|error| error.to_string()),
+        None => Ok(()),
+    }
+}
+
+/// Rules of one head may cost us so many times what rules of many heads do.
+const MOST_FOR_ONE_HEAD: f64 = 2.0;
+
+fn take_times(file: &str) -> Result<(), String> {
+    if Desk::SUBJECT.name == Desk::PLAIN.name {
+        eprintln!("measure: the archive is not linked; the plain solver is timed");
+    }
+    let old = times::read_if_there(file)?;
+    let new = times::taken(&problems::opened_and_solved(problems::all()));
+    times::write(file, &times::least(&old, &new))
+}
+
+fn compare(old: &str, new: &str) -> Result<(), String> {
+    print!("{}", times::compared(&times::read(old)?, &times::read(new)?));
+    Ok(())
 }
 
 fn measured(problem: &Problem) -> Row {

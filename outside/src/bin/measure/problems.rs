@@ -1,5 +1,6 @@
 //! The sheets that are measured, and the call that is timed on each.
 
+use super::repeats::repeats;
 use outside::desk::Call;
 use outside::draw::Draw;
 use outside::generator::sheet_of_length;
@@ -8,6 +9,7 @@ use outside::translations::{colouring, random_clauses, ring, satisfiability};
 use std::ops::RangeInclusive;
 
 /// A sheet and the call that is timed on it.
+#[derive(Clone)]
 pub struct Problem {
     pub name: String,
     pub call: Call,
@@ -46,6 +48,22 @@ pub fn reading() -> Vec<Problem> {
     problems
 }
 
+/// Everything that is measured.
+pub fn all() -> Vec<Problem> {
+    solving().into_iter().chain(reading()).chain(repeats()).collect()
+}
+
+/// Open and solve of every sheet of these problems.
+pub fn opened_and_solved(problems: Vec<Problem>) -> Vec<Problem> {
+    let mut both: Vec<Problem> = Vec::new();
+    for problem in problems {
+        if !both.iter().any(|known| known.name == problem.name) {
+            both.extend([Call::Open, Call::Solve].map(|call| Problem { call, ..problem.clone() }));
+        }
+    }
+    both
+}
+
 fn ring_problem(vertices: usize, colours: usize) -> Problem {
     let name = format!("ring of {vertices}, {colours} colours");
     Problem { name, call: Call::Open, sheet: colouring(&ring(vertices), colours) }
@@ -72,7 +90,7 @@ fn longest_problem() -> Problem {
 }
 
 /// The greatest number that one byte can say.
-const ONE_BYTE: usize = 127;
+pub const ONE_BYTE: usize = 127;
 
 fn short_rules() -> Problem {
     let sheet = mixed_sheet(&mut Draw::new("short rules", 0), 1..=ONE_BYTE, ONE_BYTE, 3);
@@ -129,10 +147,20 @@ mod tests {
 
     #[test]
     fn every_problem_is_within_the_limits() {
-        for problem in solving().into_iter().chain(reading()) {
+        for problem in all() {
             let code = Desk::PLAIN.call_bare(Call::Check, &problem.sheet.bytes(), &mut []);
             assert!(matches!(Answer::of_code(code), Some(Answer::Accepted { .. })), "{}", problem.name);
         }
+    }
+
+    #[test]
+    fn every_sheet_is_opened_and_solved_once() {
+        let (one, other) = (ring_problem(5, 2), chain_problem(3));
+        let problems = vec![Problem { call: Call::Check, ..one.clone() }, one.clone(), other.clone(), one.clone()];
+        let both = opened_and_solved(problems);
+        let both = both.iter().map(|problem| (&problem.name, problem.call)).collect::<Vec<_>>();
+        let calls = |problem| [(problem, Call::Open), (problem, Call::Solve)];
+        assert_eq!(both, [calls(&one.name), calls(&other.name)].concat());
     }
 
     #[test]

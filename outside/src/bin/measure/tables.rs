@@ -10,7 +10,10 @@ use std::{fs, io};
 /// differ by as much.
 const SAME: f64 = 1.05;
 
+const NOT_LINKED: &str = "The archive is not linked; only the plain solver was timed.";
+
 /// What was found of a problem.
+#[derive(Clone)]
 pub struct Row {
     pub name: String,
     pub call: Call,
@@ -32,7 +35,7 @@ const RIGHT: &str = "---:";
 pub fn times(rows: &[Row]) -> String {
     let start = [("Sheet", LEFT), ("Call", LEFT), ("Atoms", RIGHT), ("Rules", RIGHT), ("Answer", LEFT)];
     let cells = |row: &Row| {
-        vec![row.name.clone(), called(row), row.atoms.to_string(), row.rules.to_string(), row.answer.to_string()]
+        vec![row.name.clone(), called(row.call), row.atoms.to_string(), row.rules.to_string(), row.answer.to_string()]
     };
     let milliseconds = |_: &Row, time: Duration| format!("{:.3}", time.as_secs_f64() * 1000.0);
     table(&start, "ms", rows, cells, milliseconds)
@@ -41,7 +44,7 @@ pub fn times(rows: &[Row]) -> String {
 /// The rows with their lengths, and in megabytes a second.
 pub fn speeds(rows: &[Row]) -> String {
     let start = [("Sheet", LEFT), ("Call", LEFT), ("Bytes", RIGHT)];
-    let cells = |row: &Row| vec![row.name.clone(), called(row), row.bytes.to_string()];
+    let cells = |row: &Row| vec![row.name.clone(), called(row.call), row.bytes.to_string()];
     let megabytes = |row: &Row, time: Duration| format!("{:.0}", row.bytes as f64 / 1e6 / time.as_secs_f64());
     table(&start, "MB/s", rows, cells, megabytes)
 }
@@ -80,8 +83,9 @@ fn line(cells: &[String]) -> String {
     format!("| {} |", cells.join(" | "))
 }
 
-fn called(row: &Row) -> String {
-    match row.call {
+/// A call in a word or two.
+pub fn called(call: Call) -> String {
+    match call {
         Call::Rule { rule, .. } => format!("rule {rule}"),
         call => format!("{call:?}").to_lowercase(),
     }
@@ -99,12 +103,25 @@ fn ratio(ours: Duration, plain: Duration) -> f64 {
 /// Where ours is the slower.
 pub fn verdict(rows: &[Row]) -> String {
     let slower = |row: &&Row| row.ours.is_some_and(|ours| ratio(ours, row.plain) > SAME);
-    let names = rows.iter().filter(slower).map(|row| format!("{} of {}", called(row), row.name)).collect::<Vec<_>>();
+    let names =
+        rows.iter().filter(slower).map(|row| format!("{} of {}", called(row.call), row.name)).collect::<Vec<_>>();
     match linked(rows) {
-        false => "The archive is not linked; only the plain solver was timed.".to_string(),
+        false => NOT_LINKED.to_string(),
         true if names.is_empty() => "Ours is not slower than plain on any sheet.".to_string(),
         true => format!("Ours is slower than plain on: {}.", names.join("; ")),
     }
+}
+
+/// What open and solve of one sheet cost us over what they cost us on
+/// another, and whether both are within this.
+pub fn within(rows: &[Row], (one, other): (&str, &str), most: f64) -> String {
+    let ours = |name: &str, call: Call| rows.iter().find(|row| row.name == name && row.call == call)?.ours;
+    let ratio_of = |call: Call| Some(ratio(ours(one, call)?, ours(other, call)?));
+    let [Some(open), Some(solve)] = [Call::Open, Call::Solve].map(ratio_of) else {
+        return format!("{NOT_LINKED}\n");
+    };
+    let met = if open.max(solve) <= most { "it is" } else { "IT IS NOT" };
+    format!("Ours, {one} over {other}: open {open:.2}, solve {solve:.2}. At most {most} is asked for, and {met}.\n")
 }
 
 /// The lines before and after the table of this name.
@@ -167,9 +184,8 @@ mod tests {
         }
     }
 
-    #[test]
-    fn the_tables_show_ours_plain_and_their_ratio() {
-        let mut row = Row {
+    fn row() -> Row {
+        Row {
             name: "a sheet".to_string(),
             call: Call::Check,
             bytes: 3000,
@@ -178,7 +194,28 @@ mod tests {
             answer: Answer::Accepted { atoms: 2, rules: 5 },
             ours: Some(Duration::from_micros(10)),
             plain: Duration::from_micros(20),
+        }
+    }
+
+    #[test]
+    fn one_sheet_is_held_against_another() {
+        let timed = |name: &str, call: Call, ours: u64| {
+            let ours = Some(Duration::from_micros(ours));
+            Row { name: name.to_string(), call, ours, ..row() }
         };
+        let mut rows = [("one", 30, 50), ("other", 20, 20)]
+            .map(|(name, open, solve)| vec![timed(name, Call::Open, open), timed(name, Call::Solve, solve)])
+            .concat();
+        let said = within(&rows, ("one", "other"), 2.0);
+        assert_eq!(said, "Ours, one over other: open 1.50, solve 2.50. At most 2 is asked for, and IT IS NOT.\n");
+        assert!(within(&rows, ("one", "other"), 2.5).ends_with("At most 2.5 is asked for, and it is.\n"));
+        rows[0].ours = None;
+        assert_eq!(within(&rows, ("one", "other"), 2.0), format!("{NOT_LINKED}\n"));
+    }
+
+    #[test]
+    fn the_tables_show_ours_plain_and_their_ratio() {
+        let mut row = row();
         assert!(speeds(std::slice::from_ref(&row)).ends_with("| a sheet | check | 3000 | 300 | 150 | 0.50 |\n"));
         assert!(times(std::slice::from_ref(&row)).ends_with(" | 0.010 | 0.020 | 0.50 |\n"));
         row.ours = None;

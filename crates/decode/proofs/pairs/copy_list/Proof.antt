@@ -1,12 +1,12 @@
 -- `copy_list` meets its contract: the count that is taken says how many atoms follow it.
-use mathlib.Core.Path.{sym, _∙_, ap}
+use mathlib.Core.Path.{sym, ap}
 use borrow.Author.Needs.{needs}
 use denote.Ref.{now}
 use Rattle.rules.specs.Rule.{ones}
 use Rattle.numbers.specs.Lists.{numbersFrom}
 use Rattle.numbers.specs.declared.Span.{Span}
 use Rattle.decode.specs.inner.Taken.{numbersPast, listTaken, listPast}
-use Rattle.decode.proofs.pairs.Copy.{asks-as, copied-as}
+use Rattle.decode.proofs.pairs.Copy.{asks-as, list-as}
 use Rattle.decode.proofs.pairs.copy_list.Statement.{statement}
 use Rattle.decode.proofs.pairs.copy_list.Tie as tie
 
@@ -30,11 +30,10 @@ unfolding listTaken listPast
 returns c =
     let copied = c .before .before in
     let taken = copied .before .before in
-    let s = now (taken .before .before .before .args .s) in (
-      copied-as (ap (λ (p : Span). ones (numbersFrom (p .value) s (p .next))) (sym (taken .take-number .ensures)))
-          (copied .copy-atoms .ensures .0),
-      copied .copy-atoms .ensures .1 ∙ ap (λ (p : Span). numbersPast (p .value) s (p .next)) (taken .take-number .ensures),
-    )
+    let s = now (taken .before .before .before .args .s) in
+    list-as (ap (λ (p : Span). numbersFrom (p .value) s (p .next)) (taken .take-number .ensures))
+    (ap (λ (p : Span). numbersPast (p .value) s (p .next)) (taken .take-number .ensures))
+    (copied .copy-atoms .ensures)
 
 pub copy-list-spec : {M : Type 1} → statement M
 copy-list-spec = tie.close (tie.spec take-number-requires copy-atoms-requires same-length returns)

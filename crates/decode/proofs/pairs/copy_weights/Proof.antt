@@ -1,23 +1,20 @@
--- `copy_weights` meets its contract. The loop's invariant: what is left of the weights, written from here on, is all of them, and ends at
--- the same place.
-use Prim.Native.Nat.{_≤_, _-_}
-use mathlib.Core.Path.{sym, subst}
+-- `copy_weights` meets its contract. The loop's invariant: what is left of the weights, written from here on, is all of them, ends at the
+-- same place and has the same mark.
+use Prim.Native.Nat.{_-_}
 use native.Mathlib.Omega.{arith}
 use borrow.Author.Needs.{needs}
 use denote.Ref.{now}
-use Rattle.rules.specs.Limits.{numberMost}
-use Rattle.numbers.specs.declared.Span.{Span}
-use Rattle.numbers.proofs.number.Taken.{taken-most}
 use Rattle.table.specs.inner.Words.{pairWidth}
+use Rattle.decode.proofs.Taken.{number-fits}
 use Rattle.decode.proofs.pairs.Weights.{WeightsLeft, weights-begin, weights-turn, weights-done}
 use Rattle.decode.proofs.pairs.copy_weights.Statement.{statement}
 use Rattle.decode.proofs.pairs.copy_weights.Tie as tie
 
 abbrev Inv-loop : tie.InvT-loop
-Inv-loop s first code₀ from to at₀ j₀ code at j = WeightsLeft s code₀ from to first code j at
+Inv-loop s first code₀ from to at₀ j₀ mark₀ code at j mark = WeightsLeft s code₀ from to first code j at mark
 
 abbrev μ-loop : tie.MeasureT-loop
-μ-loop s first code₀ from to at₀ j₀ code at j = to - j
+μ-loop s first code₀ from to at₀ j₀ mark₀ code at j mark = to - j
 
 loop-holds : tie.Need-loop-holds Inv-loop μ-loop
 loop-holds c = weights-begin _ _ _ _ _ (c .before .before .pre .0)
@@ -39,9 +36,17 @@ set-word-requires c κs =
     let taken = c .before in
     let l = taken .before .before .loop in (
       omega (arith, l .inv .long),
-      subst (λ (p : Span). p .value ≤ numberMost) (sym (taken .take-number .ensures))
-          (taken-most (now (taken .before .before .before .before .before .args .s)) (l .at)),
+      number-fits (now (taken .before .before .before .before .before .args .s)) (l .at) (taken .take-number .ensures),
     )
+
+sub-mixed : tie.Need-sub-mixed Inv-loop μ-loop
+sub-mixed c = omega (arith, c .before .before .before .before .before .before .loop .inv .low)
+
+mixed-requires : tie.Need-mixed-requires Inv-loop μ-loop
+mixed-requires c κs =
+    let taken = c .before .before .before .before in
+    let l = taken .before .before .loop in
+    number-fits (now (taken .before .before .before .before .before .args .s)) (l .at) (taken .take-number .ensures)
 
 add-j : tie.Need-add-j Inv-loop μ-loop
 unfolding pairWidth
@@ -53,16 +58,17 @@ loop-less c = omega arith
 loop-again : tie.Need-loop-again Inv-loop μ-loop
 unfolding pairWidth
 loop-again c =
-    let set = c .before .before in
+    let set = c .before .before .before in
     let taken = set .before .before in
     let test = taken .before in
-    weights-turn _ _ _ _ _ _ _ _ (test .before .loop .inv) (test .loop-test .taken) (taken .take-number .ensures) (set .set-word .ensures)
+    weights-turn _ _ _ _ _ _ _ _ _ (test .before .loop .inv) (test .loop-test .taken) (taken .take-number .ensures) (set .set-word .ensures)
+    (c .mixed .ensures)
 
 same-length : tie.Need-same-length Inv-loop μ-loop
 same-length c = c .before .loop .inv .long
 
 returns : tie.Need-returns Inv-loop μ-loop
-returns c = weights-done _ _ _ _ _ _ _ _ (c .before .loop .inv) (c .loop-test .left)
+returns c = weights-done _ _ _ _ _ _ _ _ _ (c .before .loop .inv) (c .loop-test .left)
 
 pub copy-weights-spec : {M : Type 1} → statement M
 copy-weights-spec =
@@ -75,6 +81,8 @@ copy-weights-spec =
     mul-set-word
     add-set-word
     set-word-requires
+    sub-mixed
+    mixed-requires
     add-j
     loop-less
     loop-again

@@ -1,9 +1,9 @@
--- `end_rows` meets its contract. The row after the last one stands before the pairs.
+-- `end_rows` meets its contract. The row after a rule's stands before the pairs.
 use native.Mathlib.Omega.{arith}
 use borrow.Author.Needs.{needs}
 use Rattle.sheet.specs.shown.Encode.{rulesSize}
 use Rattle.table.specs.inner.Words.{rowWidth, pairWidth}
-use Rattle.decode.specs.inner.Rows.{withRules}
+use Rattle.decode.specs.inner.Rows.{withEnd}
 use Rattle.decode.proofs.rows.end_rows.Statement.{statement}
 use Rattle.decode.proofs.rows.end_rows.Tie as tie
 
@@ -23,7 +23,7 @@ same-length : tie.Need-same-length
 same-length c = search needs
 
 returns : tie.Need-returns
-unfolding withRules rowWidth
+unfolding withEnd rowWidth
 returns c = c .before .before .set-word .ensures
 
 pub end-rows-spec : {M : Type 1} → statement M

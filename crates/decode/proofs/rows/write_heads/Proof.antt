@@ -1,14 +1,13 @@
 -- `write_heads` meets its contract: a choice has a list of heads, every other kind one.
-use Prim.Native.Nat.{_≤_}
-use mathlib.Core.Path.{sym, _∙_, subst}
-use mathlib.Core.List.{[]}
+use mathlib.Core.Path.{sym, _∙_, ap}
 use native.Mathlib.Omega.{arith}
 use borrow.Author.Needs.{needs}
 use denote.Ref.{now}
 use Rattle.rules.specs.Limits.{numberMost}
-use Rattle.numbers.specs.declared.Span.{Span}
-use Rattle.numbers.proofs.number.Taken.{taken-most}
-use Rattle.decode.proofs.pairs.Copy.{asks-as, copied-as}
+use Rattle.rules.specs.Rule.{ones}
+use Rattle.repeats.specs.inner.Marks.{listMark, mixedAll}
+use Rattle.decode.proofs.Taken.{number-fits}
+use Rattle.decode.proofs.pairs.Copy.{asks-as, copied-as, list-as}
 use Rattle.decode.proofs.rows.Rule.{list-heads, one-head, list-past, one-past}
 use Rattle.decode.proofs.rows.write_heads.Statement.{statement}
 use Rattle.decode.proofs.rows.write_heads.Tie as tie
@@ -17,7 +16,7 @@ copy-list-requires : tie.Need-copy-list-requires
 copy-list-requires c κs =
     let test = c .before in
     let start = test .before .before .before in
-    asks-as (list-heads (now (start .args .s)) (start .args .kind) (start .args .at) (test .if1 .taken)) (start .pre)
+    asks-as (ap ones (list-heads (now (start .args .s)) (start .args .kind) (start .args .at) (test .if1 .taken))) (start .pre)
 
 same-length : tie.Need-same-length
 same-length c = search needs
@@ -26,10 +25,10 @@ returns : tie.Need-returns
 returns c =
     let copied = c .before .before in
     let test = copied .before .before in
-    let a = test .before .before .before .args in (
-      copied-as (list-heads (now (a .s)) (a .kind) (a .at) (test .if1 .taken)) (copied .copy-list .ensures .0),
-      copied .copy-list .ensures .1 ∙ sym (list-past (now (a .s)) (a .kind) (a .at) (test .if1 .taken)),
-    )
+    let a = test .before .before .before .args in
+    list-as (sym (list-heads (now (a .s)) (a .kind) (a .at) (test .if1 .taken)))
+    (sym (list-past (now (a .s)) (a .kind) (a .at) (test .if1 .taken)))
+    (copied .copy-list .ensures)
 
 take-number-requires : tie.Need-take-number-requires
 take-number-requires c κs = search needs
@@ -42,24 +41,33 @@ write-pair-requires c κs =
     let start = test .before .before .before in
     let a = start .args in
     record {
-      room = asks-as (one-head (now (a .s)) (a .kind) (a .at) (test .if1 .left) (taken .take-number .ensures)) (start .pre) .room;
-      atomFits =
-          subst (λ (p : Span). p .value ≤ numberMost) (sym (taken .take-number .ensures)) (taken-most (now (a .s)) (a .at));
+      room = asks-as (ap ones (one-head (now (a .s)) (a .kind) (a .at) (test .if1 .left) (taken .take-number .ensures))) (start .pre) .room;
+      atomFits = number-fits (now (a .s)) (a .at) (taken .take-number .ensures);
       weightFits = omega arith;
     }
+
+mixed-requires : tie.Need-mixed-requires
+mixed-requires c κs =
+    let taken = c .before .before .before .before in
+    let a = taken .before .before .before .before .args in
+    number-fits (now (a .s)) (a .at) (taken .take-number .ensures)
 
 same-length-2 : tie.Need-same-length-2
 same-length-2 c = search needs
 
 returns-2 : tie.Need-returns-2
+unfolding mixedAll
 returns-2 c =
-    let written = c .before .before in
+    let written = c .before .before .before in
     let taken = written .before .before in
     let test = taken .before in
-    let a = test .before .before .before .args in (
-      copied-as (one-head (now (a .s)) (a .kind) (a .at) (test .if1 .left) (taken .take-number .ensures)) (written .write-pair .ensures),
-      one-past (now (a .s)) (a .kind) (a .at) (test .if1 .left) (taken .take-number .ensures),
-    )
+    let a = test .before .before .before .args in
+    let head = one-head (now (a .s)) (a .kind) (a .at) (test .if1 .left) (taken .take-number .ensures) in
+    record {
+      pairs = copied-as (ap ones head) (written .write-pair .ensures);
+      next = one-past (now (a .s)) (a .kind) (a .at) (test .if1 .left) (taken .take-number .ensures);
+      mark = c .mixed .ensures ∙ sym (ap listMark head);
+    }
 
 pub write-heads-spec : {M : Type 1} → statement M
 write-heads-spec =
@@ -70,5 +78,6 @@ write-heads-spec =
     returns
     take-number-requires
     write-pair-requires
+    mixed-requires
     same-length-2
     returns-2)

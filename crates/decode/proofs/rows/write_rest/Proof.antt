@@ -24,12 +24,15 @@ write-row-requires c κs =
     (body .write-body .ensures)
     (due .need .ensures)
 
+blended-requires : tie.Need-blended-requires
+blended-requires c κs = search needs
+
 same-length : tie.Need-same-length
 same-length c = search needs
 
 returns : tie.Need-returns
 returns c =
-    let row = c .before .before in
+    let row = c .before .before .before in
     let due = row .before .before in
     let body = due .before .before .before in
     let start = body .before .before .before .before in
@@ -38,6 +41,7 @@ returns c =
     (body .write-body .ensures)
     (due .need .ensures)
     (row .write-row .ensures)
+    (c .blended .ensures)
 
 pub write-rest-spec : {M : Type 1} → statement M
-write-rest-spec = tie.close (tie.spec write-body-requires sub-need need-requires write-row-requires same-length returns)
+write-rest-spec = tie.close (tie.spec write-body-requires sub-need need-requires write-row-requires blended-requires same-length returns)

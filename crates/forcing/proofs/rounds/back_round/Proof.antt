@@ -1,25 +1,38 @@
--- `forcing::close::back_round`: where no atom is undecided there is nothing to add; else the counts begin at zero, and the rules are
--- backed by them.
+-- `back_round` meets its contract: where no atom is in, or none undecided, there is nothing to add; else the counts begin at zero, and the
+-- rules are backed by them.
 use Prim.Native.Nat.{ℕ, _≤_}
 use mathlib.Core.Path.{sym, subst}
 use borrow.Author.Needs.{needs}
 use denote.Ref.{now}
 use Rattle.rules.specs.Limits.{atomsMost}
 use Rattle.weigh.proofs.Bytes.{blank-room, blank-side}
-use Rattle.forcing.proofs.Closings.{backed, backed-whole}
+use Rattle.forcing.proofs.Closings.{backed, backed-idle, backed-whole}
 use Rattle.forcing.proofs.rounds.back_round.Statement.{statement}
 use Rattle.forcing.proofs.rounds.back_round.Tie as tie
 
-lowest-requires : tie.Need-lowest-requires
-lowest-requires c κs = search needs
+first-with-requires : tie.Need-first-with-requires
+first-with-requires c κs = c .before .before .before .pre .1 .room
 
 same-length : tie.Need-same-length
 same-length c = search needs
 
 returns : tie.Need-returns
 returns c =
-    let a = c .before .before .before .before .before .args in
-    backed-whole (now (a .code)) (a .n) (a .count) (c .before .before .before .before .before .pre .0) (now (a .m)) (c .before .before .before .before .before .pre .1) _ (c .before .lowest .ensures) (c .if1 .taken)
+    let start = c .before .before .before .before .before in
+    let a = start .args in
+    backed-idle (now (a .code)) (a .n) (a .count) (now (a .m)) (start .pre .1) _ (c .before .first-with .ensures) (c .if1 .taken)
+
+lowest-requires : tie.Need-lowest-requires
+lowest-requires c κs = c .before .before .before .before .before .before .pre .1 .room
+
+same-length-2 : tie.Need-same-length-2
+same-length-2 c = search needs
+
+returns-2 : tie.Need-returns-2
+returns-2 c =
+    let start = c .before .before .before .before .before .before .before .before in
+    let a = start .args in
+    backed-whole (now (a .code)) (a .n) (a .count) (start .pre .0) (now (a .m)) (start .pre .1) _ (c .before .lowest .ensures) (c .if2 .taken)
 
 slice-aggregate-count-all : tie.Need-slice-aggregate-count-all
 slice-aggregate-count-all c = search needs
@@ -27,10 +40,8 @@ slice-aggregate-count-all c = search needs
 count-all-requires : tie.Need-count-all-requires
 unfolding atomsMost
 count-all-requires c κs =
-    let p = c .before .before .before .before .before .before .before .pre in (
-      p .0,
-      (p .1 .room, (blank-room atomsMost _ (p .0 .fewAtoms), λ x w. blank-side atomsMost _ (p .0 .fewAtoms) x)),
-    )
+    let p = c .before .before .before .before .before .before .before .before .before .before .pre in
+    (p .0, (p .1 .room, (blank-room atomsMost _ (p .0 .fewAtoms), λ x w. blank-side atomsMost _ (p .0 .fewAtoms) x)))
 
 slice-aggregate-back-all : tie.Need-slice-aggregate-back-all
 slice-aggregate-back-all c = search needs
@@ -38,32 +49,39 @@ slice-aggregate-back-all c = search needs
 back-all-requires : tie.Need-back-all-requires
 unfolding atomsMost
 back-all-requires c κs =
-    let p = c .before .before .before .before .before .before .before .before .before .before .before .pre in (
+    let counted = c .before .before .before in
+    let start = counted .before .before .before .before .before .before .before .before .before .before .before in
+    let p = start .pre in (
       p .0,
       (
-        subst (λ (x : ℕ). c .before .before .before .before .before .before .before .before .before .before .before .args .n ≤ x) (sym (c .before .before .before .count-all .kept .1 .1 .1 .1 .0)) (blank-room atomsMost _ (p .0 .fewAtoms)),
-        (p .1, c .before .before .before .count-all .ensures),
+        subst (λ (x : ℕ). start .args .n ≤ x) (sym (counted .count-all .kept .1 .1 .1 .1 .0)) (blank-room atomsMost _ (p .0 .fewAtoms)),
+        (p .1, counted .count-all .ensures),
       ),
     )
 
-same-length-2 : tie.Need-same-length-2
-same-length-2 c = search needs
+same-length-3 : tie.Need-same-length-3
+same-length-3 c = search needs
 
-returns-2 : tie.Need-returns-2
-returns-2 c =
-    let a = c .before .before .before .before .before .before .before .before .before .before .before .before .before .before .args in
-    backed (now (a .code)) (a .n) (a .count) _ _ _ _ (c .before .before .before .before .before .before .count-all .ensures) (c .before .before .back-all .ensures)
+returns-3 : tie.Need-returns-3
+returns-3 c =
+    let done = c .before .before in
+    let counted = done .before .before .before .before in
+    let a = counted .before .before .before .before .before .before .before .before .before .before .before .args in
+    backed (now (a .code)) (a .n) (a .count) _ _ _ _ (counted .count-all .ensures) (done .back-all .ensures)
 
 pub back-round-spec : {M : Type 1} → statement M
 back-round-spec =
     tie.close
     (tie.spec
-    lowest-requires
+    first-with-requires
     same-length
     returns
+    lowest-requires
+    same-length-2
+    returns-2
     slice-aggregate-count-all
     count-all-requires
     slice-aggregate-back-all
     back-all-requires
-    same-length-2
-    returns-2)
+    same-length-3
+    returns-3)

@@ -23,8 +23,8 @@ negatives-at-requires c κs = search needs
 end-at-requires : tie.Need-end-at-requires
 end-at-requires c κs = search needs
 
-kind-written-requires : tie.Need-kind-written-requires
-kind-written-requires c κs = search needs
+kind-at-requires : tie.Need-kind-at-requires
+kind-at-requires c κs = search needs
 
 need-at-requires : tie.Need-need-at-requires
 need-at-requires c κs = search needs
@@ -60,7 +60,7 @@ returns : tie.Need-returns
 unfolding partOf pick
 returns c =
     simp (c .before .match .keys1)
-    (ap Is (c .kind-written .ensures))
+    (ap Is (c .kind-at .ensures))
 
 returns-2 : tie.Need-returns-2
 unfolding partOf pick
@@ -128,7 +128,7 @@ part-spec =
     positives-at-requires
     negatives-at-requires
     end-at-requires
-    kind-written-requires
+    kind-at-requires
     need-at-requires
     cast-t12
     count-requires

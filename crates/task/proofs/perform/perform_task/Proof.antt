@@ -4,7 +4,7 @@ use borrow.Author.Needs.{needs}
 use Rattle.table.specs.inner.Rows.{tableSheet}
 use Rattle.gate.specs.inner.Fit.{TaskFits}
 use Rattle.task.proofs.bytes.Laws.{copied-proper}
-use Rattle.task.proofs.perform.Laws.{performs-stay, performs-open, performs-pin, performs-solve, performs-test, performs-rule, blank-fits, tell-asks, whole-map}
+use Rattle.task.proofs.perform.Laws.{performs-stay, performs-open, performs-pin, performs-solve, performs-test, performs-rule, blank-fits, whole-map}
 use Rattle.task.proofs.perform.perform_task.Statement.{statement}
 use Rattle.task.proofs.perform.perform_task.Tie as tie
 
@@ -65,10 +65,10 @@ enum-known-task-2 c = search needs
 tell-requires : tie.Need-tell-requires
 tell-requires c κs =
     let start = c .before .before .before .before .before .before in
-    let p = start .pre in let f = subst (TaskFits _ _ _) (c .before .task2 .given .1) (p .1 .0) in tell-asks (p .0) (f .0) (f .1)
+    let p = start .pre in let f = subst (TaskFits _ _ _) (c .before .task2 .given .1) (p .1 .0) in record { row = p .0 .rows _ (f .0); fits = f .1 }
 
 returns : tie.Need-returns
-returns c = performs-stay (tableSheet _ _ _) _ (c .before .enum-told .given .1) (c .answer .ensures)
+returns c = performs-stay (tableSheet _ _ _) _ _ (c .before .enum-told .given .1) (c .answer .ensures)
 
 same-length : tie.Need-same-length
 same-length c = search needs
@@ -78,7 +78,7 @@ returns-2 c =
     let at-close-held = c .before .before in
     let at-enum-told = at-close-held .before .before in
     let start = at-enum-told .before .before .before .before .before in
-    performs-open (tableSheet _ _ _) _ (at-enum-told .enum-told2 .given .1) (start .pre .1 .1) (start .pre .0 .fewAtoms) (at-close-held .close-held .ensures)
+    performs-open (tableSheet _ _ _) _ _ (at-enum-told .enum-told2 .given .1) (start .pre .1 .1) (start .pre .0 .fewAtoms) (at-close-held .close-held .ensures)
 
 same-length-2 : tie.Need-same-length-2
 same-length-2 c = search needs
@@ -88,13 +88,13 @@ returns-3 c =
     let at-press = c .before .before in
     let at-copy = at-press .before .before .before .before in
     let at-task = at-copy .before .before .before in
-    performs-pin (tableSheet _ _ _) _ (at-copy .copy .ensures) _ _ (at-task .task .given .1) (at-press .press .ensures)
+    performs-pin (tableSheet _ _ _) _ _ (at-copy .copy .ensures) _ _ (at-task .task .given .1) (at-press .press .ensures)
 
 same-length-3 : tie.Need-same-length-3
 same-length-3 c = search needs
 
 returns-4 : tie.Need-returns-4
-returns-4 c = performs-solve (tableSheet _ _ _) _ (c .before .before .before .before .enum-told3 .given .1) (c .before .before .search-model .ensures)
+returns-4 c = performs-solve (tableSheet _ _ _) _ _ (c .before .before .before .before .enum-told3 .given .1) (c .before .before .search-model .ensures)
 
 same-length-4 : tie.Need-same-length-4
 same-length-4 c = search needs
@@ -104,13 +104,12 @@ returns-5 c =
     let at-close-held = c .before .before in
     let at-copy = at-close-held .before .before .before .before in
     let at-enum-told = at-copy .before .before in
-    performs-test (tableSheet _ _ _) _ (at-copy .copy2 .ensures) (at-enum-told .enum-told4 .given .1) (at-close-held .close-held2 .ensures)
+    performs-test (tableSheet _ _ _) _ _ (at-copy .copy2 .ensures) (at-enum-told .enum-told4 .given .1) (at-close-held .close-held2 .ensures)
 
 returns-6 : tie.Need-returns-6
 returns-6 c =
     let at-task = c .before .before in
-    let start = at-task .before .before .before .before .before in
-    performs-rule _ _ _ _ _ _ (at-task .task2 .given .1) (subst (TaskFits _ _ _) (at-task .task2 .given .1) (start .pre .1 .0) .0) (c .tell .ensures)
+    performs-rule (tableSheet _ _ _) _ _ _ _ (at-task .task2 .given .1) (c .tell .ensures)
 
 pub perform-task-spec : {M : Type 1} → statement M
 perform-task-spec =

@@ -1,33 +1,19 @@
 -- `tell` meets its contract: the rule's row is weighed, or its part is read.
 use mathlib.Core.Path.{refl, subst, _∙_}
-use native.Mathlib.Omega.{arith}
 use borrow.Author.Needs.{needs}
 use mir.Syntax.{w64}
 use mir.ValLaws.{toZ-ofZ}
-use Rattle.rules.specs.Limits.{rulesMost}
 use Rattle.gate.specs.inner.Fit.{AskFits}
 use Rattle.task.proofs.perform.Laws.{told-margin, told-part, told-nothing}
 use Rattle.task.proofs.perform.tell.Statement.{statement}
 use Rattle.task.proofs.perform.tell.Tie as tie
-
-number-requires : tie.Need-number-requires
-number-requires c κs = search needs
-
-sub-row : tie.Need-sub-row
-sub-row c = search needs
-
-cast-row : tie.Need-cast-row
-unfolding rulesMost
-cast-row c = omega (arith, c .number .ensures, c .before .before .before .pre .within .high)
 
 enum-told : tie.Need-enum-told
 enum-told c = search needs
 
 margin-requires : tie.Need-margin-requires
 margin-requires c κs =
-    let at-number = c .before .before in
-    let start = at-number .before .before .before in
-    (simp (at-number .number .ensures) (start .pre .row), subst (AskFits _ _) (c .enum-told .given .1) (start .pre .fits))
+    let p = c .before .before .before .before .pre in (p .row, subst (AskFits _ _) (c .enum-told .given .1) (p .fits))
 
 enum-known-ask : tie.Need-enum-known-ask
 enum-known-ask c = search needs
@@ -49,31 +35,25 @@ answer-requires-2 c κs = search needs
 
 returns : tie.Need-returns
 returns c =
-    let at-number = c .before .before .before in
-    told-margin _ _ _ _ _ (at-number .number .ensures) _ (c .before .enum-told .given .1) refl (toZ-ofZ w64 _ (record { sfits = c .margin .ok }) ∙ c .margin .ensures)
+    told-margin _ _ _ _ (c .before .enum-told .given .1) refl (toZ-ofZ w64 _ (record { sfits = c .margin .ok }) ∙ c .margin .ensures)
 
 returns-2 : tie.Need-returns-2
 returns-2 c =
     let at-number = c .before .before in
     let at-part = at-number .before .before in
     let at-ask = at-part .before .before in
-    let at-number′ = at-ask .before .before in
-    told-part _ _ _ _ _ (at-number′ .number .ensures) _ _ (at-ask .ask .given .1) (at-part .part .ensures) _ (at-number .number2 .given .1) (c .answer .ensures)
+    told-part _ _ _ _ _ (at-ask .ask .given .1) (at-part .part .ensures) _ (at-number .number .given .1) (c .answer .ensures)
 
 returns-3 : tie.Need-returns-3
 returns-3 c =
     let at-part = c .before .before .before in
     let at-ask = at-part .before .before in
-    let at-number = at-ask .before .before in
-    told-nothing _ _ _ _ _ (at-number .number .ensures) _ _ (at-ask .ask .given .1) (at-part .part .ensures) (c .before .enum-told2 .given .1) (c .answer2 .ensures)
+    told-nothing _ _ _ _ _ (at-ask .ask .given .1) (at-part .part .ensures) (c .before .enum-told2 .given .1) (c .answer2 .ensures)
 
 pub tell-spec : {M : Type 1} → statement M
 tell-spec =
     tie.close
     (tie.spec
-    number-requires
-    sub-row
-    cast-row
     enum-told
     margin-requires
     enum-known-ask

@@ -1,11 +1,11 @@
--- `kind_written` meets its contract: its tests are those by which a word is a kind.
+-- `kind_at` meets its contract: its tests are those by which a word is a kind.
 use mathlib.Core.Path.{sym}
 use borrow.Author.Needs.{needs}
 use borrow.Author.Tests.{eq-eqb, ne-eqb}
 use Rattle.table.specs.inner.Words.{rowWidth}
 use Rattle.table.specs.inner.Rows.{kindAt, kindOf}
-use Rattle.table.proofs.parts.kind_written.Statement.{statement}
-use Rattle.table.proofs.parts.kind_written.Tie as tie
+use Rattle.table.proofs.parts.kind_at.Statement.{statement}
+use Rattle.table.proofs.parts.kind_at.Tie as tie
 
 mul-word : tie.Need-mul-word
 mul-word c = search needs
@@ -38,6 +38,6 @@ returns-4 c =
     let at-word = at-if .before in
     simp (sym (at-word .word .ensures), ne-eqb _ _ (at-if .if1 .left), ne-eqb _ _ (c .before .if2 .left), ne-eqb _ _ (c .if3 .left))
 
-pub kind-written-spec : {M : Type 1} → statement M
-kind-written-spec =
+pub kind-at-spec : {M : Type 1} → statement M
+kind-at-spec =
     tie.close (tie.spec mul-word word-requires cast-kind returns returns-2 returns-3 returns-4)

@@ -1,17 +1,17 @@
--- `forcing::close::lowest`: every index that the loop has passed has a byte that is not 0.
+-- `first_with` meets its contract: every index that the loop has passed has another byte.
 use Prim.Native.Nat.{ℕ, _≤_, _<_, _-_}
 use mathlib.Core.Path.{_≡_}
 use lib.ListN.{getD}
 use borrow.Author.Needs.{needs}
 use borrow.Author.Count.{below-more}
-use Rattle.forcing.proofs.rounds.lowest.Statement.{statement}
-use Rattle.forcing.proofs.rounds.lowest.Tie as tie
+use Rattle.forcing.proofs.rounds.first_with.Statement.{statement}
+use Rattle.forcing.proofs.rounds.first_with.Tie as tie
 
 abbrev Inv-loop : tie.InvT-loop
-Inv-loop m n i₀ i = (i ≤ n) × ((k : ℕ) → k < i → getD m k 0 ≡ 0 → ⊥)
+Inv-loop m n v i₀ i = (i ≤ n) × ((k : ℕ) → k < i → getD m k 0 ≡ v → ⊥)
 
 abbrev μ-loop : tie.MeasureT-loop
-μ-loop m n i₀ i = n - i
+μ-loop m n v i₀ i = n - i
 
 loop-holds : tie.Need-loop-holds Inv-loop μ-loop
 loop-holds c = search needs
@@ -37,8 +37,8 @@ loop-again c = (search needs, below-more _ _ (c .before .before .before .loop .i
 returns-2 : tie.Need-returns-2 Inv-loop μ-loop
 returns-2 c = search needs
 
-pub lowest-spec : {M : Type 1} → statement M
-lowest-spec =
+pub first-with-spec : {M : Type 1} → statement M
+first-with-spec =
     tie.close
     (tie.spec
     Inv-loop

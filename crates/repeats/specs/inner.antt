@@ -1,0 +1,3 @@
+pub mod Same
+pub mod Marks
+pub mod Slots
