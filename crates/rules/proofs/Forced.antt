@@ -28,12 +28,6 @@ supports-reach a M r t = leb→le (r .need) (reach r M) (T-and-right (has a (r .
 pub to-supports : (a : ℕ) (M : Map) (r : Rule) → T (has a (r .heads)) → r .need ≤ reach r M → T (supports a M r)
 to-supports a M r h l = and-T (has a (r .heads)) (leb (r .need) (reach r M)) h (le→leb (r .need) (reach r M) l)
 
--- where one rule alone, counted as often as each stands, supports an atom, it is the only one: so rule 2 forces at least what it did when
--- it counted so
-pub one-only :
-    (P : List Rule) (a : ℕ) (M : Map) (r : Rule) → List·Memᴰ r P → T (supports a M r) → count (supports a M) P ≡ 1 → Only P a M r
-one-only P a M r m t one q n u = count-one (supports a M) P (omega (arith, one)) q r n m u t
-
 -- a founded atom has a supporter: without one, the atoms not out but for it would be grounds
 pub supporter : (P : List Rule) (M : Map) (a : ℕ) → Founded P M a → (r : Rule) × List·Memᴰ r P × T (supports a M r)
 supporter P M a fa = ⊎-elim (λ f. f) (λ none. absurd (T-ne {a = a} {b = a} (T-and-right (isnt 2 M a) (not (eqb a a)) (fa others (grounds none))) refl)) (find (supports a M) P)
@@ -155,3 +149,9 @@ module _ {P : List Rule} {n : ℕ} {M X : Map} (f : M ⊑ X) (x : Closed P n X) 
       step (inl e) = absurd (no-other (λ o. want-decided false (sym o ∙ e)))
       step (inr (inl e)) = e
       step (inr (inr e)) = absurd (no-other (λ o. want-apart false (sym o ∙ e)))
+
+-- where one rule alone, counted as often as each stands, supports an atom, it is the only one: so rule 2 forces at least what it did when
+-- it counted so
+pub one-only :
+    (P : List Rule) (a : ℕ) (M : Map) (r : Rule) → List·Memᴰ r P → T (supports a M r) → count (supports a M) P ≡ 1 → Only P a M r
+one-only P a M r m t one q n u = count-one (supports a M) P (omega (arith, one)) q r n m u t
