@@ -4,6 +4,7 @@ use Prim.Native.Nat.{ℕ, _+_, _*_, _≤_, _<_}
 use mathlib.Core.Path.{_≡_, refl, sym, _∙_, ap, ap₂, subst}
 use mathlib.Core.List.{List, [], _∷_, List·Memᴰ}
 use native.Mathlib.Omega.{arith}
+use lib.ListN.{getD}
 use Rattle.rules.specs.Limits.{numberMost}
 use Rattle.rules.specs.Rule.{Rule, Sheet, SameSet, kindNumber, choice, noRule, atomsOf}
 use Rattle.rules.proofs.Members.{mem-index}
@@ -22,7 +23,7 @@ use Rattle.table.proofs.Rows.{rule-stands, rule-mem}
 use Rattle.decode.specs.declared.pairs.Reached.{Reached}
 use Rattle.decode.specs.declared.rows.Rows.{Rows}
 use Rattle.decode.specs.inner.Taken.{ruleOf}
-use Rattle.decode.specs.inner.Rows.{endFrom, firstPair, listsRule, withRule, withEnd, withLast, RowWritten, TableRoom, Stood, Stays, RestAsks, RestPut}
+use Rattle.decode.specs.inner.Rows.{endFrom, firstPair, listsRule, withRule, withEnd, withLast, RowWritten, TableRoom, RowHas, Stood, RestAsks, RestPut}
 use Rattle.decode.specs.inner.Decode.{Decodable, WritesRules, Decoded}
 use Rattle.decode.proofs.Taken.{lists-taken}
 use Rattle.decode.proofs.Laid.{written-row}
@@ -119,13 +120,13 @@ module _
               λ r m.
               let t = mem-index noRule m in
               let u = stood .all (t .0) (omega (arith, t .1, ran .count)) in
-              subst (λ (q : Rule). List·Memᴰ q (tableRules d (rules .count))) (u .same ∙ t .2) (rule-mem d (rules .count) (u .row) (u .low));
+              subst (λ (q : Rule). List·Memᴰ q (tableRules d (rules .count))) (u .1 .same ∙ t .2) (rule-mem d (rules .count) (u .0) (u .1 .low));
         }
 
     listed : rowRule d (rules .count) ≡ listsRule sh
     listed = row-written lists-row ∙ sym lists-are
 
-    stays : wanted < o .rules .value → Stays (sh .rules) d (rules .count) wanted (rules .row)
+    stays : wanted < o .rules .value → RowHas d (rules .count) (getD (sh .rules) wanted noRule) (rules .row)
     stays h =
         let t = wrote .row h in
         record { low = t .low; same = rule-kept lists room below (wrote .stood) (rules .row) (t .low) ∙ t .same }

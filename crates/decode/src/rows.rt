@@ -88,7 +88,7 @@ fn take_bound(s: &[u8], kind: usize, at: usize) -> Span
 fn need(kind: usize, bound: usize, length: usize) -> usize
     ensures { λ r. ⌜ r ≡ needTaken kind bound length ⌝ }
 {
-    if has_bound(kind) { bound } else { length }
+    either(has_bound(kind), bound, length)
 }
 
 // The body at a place, weighed or not, as pairs from j on.

@@ -14,7 +14,7 @@ use Rattle.table.specs.inner.Words.{rowWidth, pairWidth, wordAt, pairAt}
 use Rattle.table.specs.inner.Rows.{kindOf, kindAt, needAt, headsAt, positivesAt, negativesAt, rowRule}
 use Rattle.table.proofs.Words.{seg-mem}
 use Rattle.repeats.specs.inner.Same.{Filled}
-use Rattle.decode.specs.inner.Rows.{positivesFrom, negativesFrom, endFrom, withLast, RowWritten, TableRoom, RowStands, RowOf, Stood}
+use Rattle.decode.specs.inner.Rows.{positivesFrom, negativesFrom, endFrom, withLast, RowWritten, TableRoom, RowStands, RowHas, Stood}
 use Rattle.decode.proofs.rows.Laws.{last-other}
 use Rattle.decode.proofs.rows.Written.{last-written, row-written}
 use Rattle.decode.proofs.pairs.Laws.{seg-same}
@@ -113,7 +113,7 @@ module _ {c : List ℕ} {k j : ℕ} (r : Rule) (room : TableRoom c k j (r ∷ []
         from = stood .from;
         rows = rows-kept;
         top = λ q e. last-row .headsFrom;
-        all = λ x h. let o = stood .all x h in record { row = o .row; low = o .low; same = rule-kept (o .row) (o .low) ∙ o .same };
+        all = λ x h. let o = stood .all x h in (o .0, record { low = o .1 .low; same = rule-kept (o .0) (o .1 .low) ∙ o .1 .same });
         apart = λ p q a b e. stood .apart p q a b (sym (rule-kept p a) ∙ e ∙ rule-kept q b);
       }
 
@@ -123,14 +123,14 @@ upTo-next {Q} {i} before here x h =
     ⊎-elim (λ (e : x ≡ i). subst Q (sym e) here) (λ (l : x < i). before x l) (eq-or-lt-of-le (omega (arith, h)))
 
 pub stood-repeat :
-    {rs : List Rule} {first : ℕ} {c : List ℕ} {i k j : ℕ} → Stood rs first c i k j → RowOf c k (getD rs i noRule)
+    {rs : List Rule} {first : ℕ} {c : List ℕ} {i k j : ℕ} → Stood rs first c i k j → (row : ℕ) × RowHas c k (getD rs i noRule) row
     → Stood rs first c (i + 1) k j
 stood-repeat {rs} {c = c} {k = k} stood here =
     record {
       from = stood .from;
       rows = stood .rows;
       top = stood .top;
-      all = upTo-next {Q = λ x. RowOf c k (getD rs x noRule)} (stood .all) here;
+      all = upTo-next {Q = λ x. (row : ℕ) × RowHas c k (getD rs x noRule) row} (stood .all) here;
       apart = stood .apart;
     }
 
@@ -163,8 +163,8 @@ module _
     last : RowStands c rs first (endFrom j r) k
     last = record { place = j; rule = r; among = among; low = stood .from; high = omega arith; written = row }
 
-    later : {q : Rule} → RowOf c k q → RowOf c (k + 1) q
-    later o = record { row = o .row; low = omega (arith, o .low); same = o .same }
+    later : {q : Rule} → (row : ℕ) × RowHas c k q row → (row : ℕ) × RowHas c (k + 1) q row
+    later o = (o .0, record { low = omega (arith, o .1 .low); same = o .1 .same })
 
     one-of : (p : ℕ) → p < k + 1 → (p ≡ k) ⊎ (p < k)
     one-of p h = eq-or-lt-of-le (omega (arith, h))
@@ -183,7 +183,7 @@ module _
           rows = upTo-next {Q = λ q. RowStands c rs first (endFrom j r) q} further last;
           top = λ q e. row .end;
           all =
-              upTo-next {Q = λ x. RowOf c (k + 1) (getD rs x noRule)} (λ x h. later (stood .all x h))
-              (record { row = k; low = omega arith; same = row-written row ∙ sym here });
+              upTo-next {Q = λ x. (row : ℕ) × RowHas c (k + 1) (getD rs x noRule) row} (λ x h. later (stood .all x h))
+              (k, record { low = omega arith; same = row-written row ∙ sym here });
           apart = λ p q a b e. apart p q (one-of p a) (one-of q b) e;
         }

@@ -41,7 +41,7 @@ use Rattle.repeats.specs.inner.Slots.{Indexed, KeepAsks, KeptOnce}
 use Rattle.repeats.proofs.Index.{index-begin, index-kept}
 use Rattle.decode.specs.declared.pairs.Reached.{Reached}
 use Rattle.decode.specs.inner.Taken.{ruleTaken}
-use Rattle.decode.specs.inner.Rows.{positivesFrom, negativesFrom, endFrom, firstPair, listsRule, withEnd, withLast, RowWritten, TableRoom, RuleAsks, RulePut, Stood, Stays}
+use Rattle.decode.specs.inner.Rows.{positivesFrom, negativesFrom, endFrom, firstPair, listsRule, withEnd, withLast, RowWritten, TableRoom, RuleAsks, RulePut, RowHas, Stood}
 use Rattle.decode.specs.inner.Decode.{Decodable, WritesRules}
 use Rattle.decode.proofs.Taken.{RuleIs, rule-taken}
 use Rattle.decode.proofs.rows.Laws.{room-next, last-long}
@@ -55,7 +55,7 @@ pub record Writing (s : List ℕ) (o : Outline) (wanted : ℕ) (c₀ c slots lin
   pub few : k ≤ i
   pub room : TableRoom c k j (rulesFrom (o .rules .value - i) s (o .atoms) at ++ (listsRule (sheetMeant s o) ∷ []))
   pub stood : Stood (sheetMeant s o .rules) (firstPair (o .rules .value)) c i k j
-  pub stays : wanted < i → Stays (sheetMeant s o .rules) c k wanted row
+  pub stays : wanted < i → RowHas c k (getD (sheetMeant s o .rules) wanted noRule) row
   pub rowMost : row ≤ i
   pub rest : drop i (sheetMeant s o .rules) ≡ rulesFrom (o .rules .value - i) s (o .atoms) at
   pub reads :
@@ -265,7 +265,7 @@ module _ {s : List ℕ} {o : Outline} {c₀ : List ℕ} (ready : Decodable s o c
                           pairs = omega (arith, room .pairs, last-long c k j r);
                           few = omega (arith, room .few);
                         };
-                    stood′ = stood-repeat stood (record { row = x; low = l; same = rule ∙ sym here });
+                    stood′ = stood-repeat stood (x, record { low = l; same = rule ∙ sym here });
                     index′ =
                         subst (λ (y : List ℕ). Indexed d y links′ k) (sym slots-same)
                         (subst (λ (y : List ℕ). Indexed d slots y k) (sym links-same) index-on);
@@ -301,16 +301,16 @@ module _ {s : List ℕ} {o : Outline} {c₀ : List ℕ} (ready : Decodable s o c
                   let b = ne-eqb x k (λ e. omega (arith, e)) in
                   subst (λ (t : Bool). Turned (pick t (k + 1) k) (pick t (end .pair) j)) (sym b) (repeated l)
 
-              stays-on : (k′ j′ : ℕ) → Turned k′ j′ → wanted < i + 1 → Stays rules d k′ wanted (pick (eqb i wanted) x row)
+              stays-on : (k′ j′ : ℕ) → Turned k′ j′ → wanted < i + 1 → RowHas d k′ (getD rules wanted noRule) (pick (eqb i wanted) x row)
               unfolding pick
               stays-on k′ j′ t l =
                   ⊎-elim
                   (λ (e : wanted ≡ i).
-                  subst (λ (b : Bool). Stays rules d k′ wanted (pick b x row)) (sym (eq-eqb i wanted (sym e)))
+                  subst (λ (b : Bool). RowHas d k′ (getD rules wanted noRule) (pick b x row)) (sym (eq-eqb i wanted (sym e)))
                   (record { low = t .row′ .0; same = t .row′ .1 ∙ sym here ∙ ap (λ (y : ℕ). getD rules y noRule) (sym e) }))
                   (λ (m : wanted < i).
                   let old = w .stays m in
-                  subst (λ (b : Bool). Stays rules d k′ wanted (pick b x row)) (sym (ne-eqb i wanted (λ e. omega (arith, e))))
+                  subst (λ (b : Bool). RowHas d k′ (getD rules wanted noRule) (pick b x row)) (sym (ne-eqb i wanted (λ e. omega (arith, e))))
                   (record {
                     low = omega (arith, old .low, t .more);
                     same = rule-kept r room-one below (w .stood) row (old .low) ∙ old .same;

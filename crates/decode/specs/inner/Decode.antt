@@ -4,8 +4,8 @@
 use Prim.Native.Nat.{ℕ, _+_, _*_, _≤_, _<_}
 use mathlib.Core.Path.{_≡_}
 use mathlib.Core.List.{List, [], _∷_}
-use lib.ListN.{length}
-use Rattle.rules.specs.Rule.{Shuffled}
+use lib.ListN.{length, getD}
+use Rattle.rules.specs.Rule.{noRule, Shuffled}
 use Rattle.sheet.specs.Sheet.{sheetRead}
 use Rattle.sheet.specs.Meaning.{sheetMeant}
 use Rattle.sheet.specs.declared.Outline.{Outline}
@@ -14,7 +14,7 @@ use Rattle.table.specs.inner.Words.{pairWidth}
 use Rattle.table.specs.inner.Rows.{tableSheet, Laid}
 use Rattle.decode.specs.declared.rows.Rows.{Rows}
 use Rattle.decode.specs.declared.Table.{Table}
-use Rattle.decode.specs.inner.Rows.{firstPair, listsRule, TableRoom, Stood, Stays}
+use Rattle.decode.specs.inner.Rows.{firstPair, listsRule, TableRoom, RowHas, Stood}
 
 -- how many words the table of a sheet of so many bytes needs
 unfoldable pub tableWords : ℕ → ℕ
@@ -43,7 +43,7 @@ pub record WritesRules (s : List ℕ) (o : Outline) (wanted : ℕ) (c c′ : Lis
       Stood (sheetMeant s o .rules) (firstPair (o .rules .value)) c′ (o .rules .value) (end .count) (end .pair)
   pub few : end .count ≤ o .rules .value
   pub room : TableRoom c′ (end .count) (end .pair) (listsRule (sheetMeant s o) ∷ [])
-  pub row : wanted < o .rules .value → Stays (sheetMeant s o .rules) c′ (end .count) wanted (end .row)
+  pub row : wanted < o .rules .value → RowHas c′ (end .count) (getD (sheetMeant s o .rules) wanted noRule) (end .row)
   pub rowMost : end .row ≤ o .rules .value
   pub place : end .next ≡ o .rules .next
   pub long : length c′ ≡ length c
@@ -52,6 +52,6 @@ pub record WritesRules (s : List ℕ) (o : Outline) (wanted : ℕ) (c c′ : Lis
 pub record Decoded (s : List ℕ) (o : Outline) (wanted : ℕ) (c c′ : List ℕ) (t : Table) : Type 0 where
   pub laid : Laid c′ (o .atoms) (t .rules)
   pub sheet : Shuffled (tableSheet c′ (o .atoms) (t .rules)) (sheetMeant s o)
-  pub row : wanted < o .rules .value → Stays (sheetMeant s o .rules) c′ (t .rules) wanted (t .row)
+  pub row : wanted < o .rules .value → RowHas c′ (t .rules) (getD (sheetMeant s o .rules) wanted noRule) (t .row)
   pub rowMost : t .row ≤ o .rules .value
   pub long : length c′ ≡ length c

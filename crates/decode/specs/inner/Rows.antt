@@ -141,9 +141,8 @@ pub record RowStands (c : List ℕ) (rs : List Rule) (first last q : ℕ) : Type
   pub high : endFrom place rule ≤ last
   pub written : RowWritten c q place rule
 
--- a row before k has this rule
-pub record RowOf (c : List ℕ) (k : ℕ) (r : Rule) : Type 0 where
-  pub row : ℕ
+-- this row is before k and has this rule
+pub record RowHas (c : List ℕ) (k : ℕ) (r : Rule) (row : ℕ) : Type 0 where
   pub low : row < k
   pub same : rowRule c row ≡ r
 
@@ -152,10 +151,5 @@ pub record Stood (rs : List Rule) (first : ℕ) (c : List ℕ) (i k j : ℕ) : T
   pub from : first ≤ j
   pub rows : (q : ℕ) → q < k → RowStands c rs first j q
   pub top : (q : ℕ) → q + 1 ≡ k → headsAt c k ≡ j
-  pub all : (x : ℕ) → x < i → RowOf c k (getD rs x noRule)
+  pub all : (x : ℕ) → x < i → (row : ℕ) × RowHas c k (getD rs x noRule) row
   pub apart : (p q : ℕ) → p < k → q < k → rowRule c p ≡ rowRule c q → p ≡ q
-
--- the rule of number x + 1 stands in this row
-pub record Stays (rs : List Rule) (c : List ℕ) (k x row : ℕ) : Type 0 where
-  pub low : row < k
-  pub same : rowRule c row ≡ getD rs x noRule
