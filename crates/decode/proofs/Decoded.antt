@@ -156,7 +156,7 @@ module _
           long = last-long c₁ (rules .count) (rules .pair) lists ∙ wrote .long;
         }
 
-    module _ {c₂ : List ℕ} (end : Reached) (put : RestPut s (kindNumber choice) unbound c₁ (rules .count) (rules .pair) (rules .pair) c₂ end) where
+    module _ {c₂ : List ℕ} (end : Reached) (put : RestPut s (kindNumber choice) unbound c₁ (rules .count) (rules .pair) (rules .pair) 0 c₂ end) where
       put-rule : (c₂ ≡ withRule c₁ (rules .count) (rules .pair) lists) × (end .pair ≡ endFrom (rules .pair) lists)
       put-rule = headless s unbound c₁ (rules .count) (rules .pair) end put
 

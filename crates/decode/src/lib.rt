@@ -54,7 +54,7 @@ pub fn decode(s: &[u8], sheet: Outline, wanted: usize, code: &mut [u32]) -> Tabl
         first: rules.next,
         next: rules.next,
     };
-    let lists = write_rest(s, CHOICE, none, code, count, rules.pair, rules.pair);
+    let lists = write_rest(s, CHOICE, none, code, count, rules.pair, rules.pair, 0);
     end_rows(code, count + 1, lists.pair);
     Table {
         rules: count,

@@ -17,7 +17,7 @@ use super::words::set_word;
 use numbers::Span;
 use numbers::take_number;
 use repeats::SLOTS;
-use repeats::blended;
+use repeats::carried;
 use repeats::keep;
 use repeats::mixed;
 use rules::RuleNo;
@@ -27,8 +27,8 @@ use rules::kind::WEIGHT;
 use sheet::Outline;
 use table::ROW;
 
-// Where a body was written: the pair of its first negated literal, and the pair after its last; the place after it on the sheet; and its
-// mark.
+// Where a body was written: the pair of its first negated literal, and the pair after its last; the place after it on the sheet; and the
+// mark with it.
 pub(crate) struct BodyEnds {
     pub negatives: usize,
     pub end: usize,
@@ -44,13 +44,13 @@ pub(crate) struct Rows {
     pub next: usize,
 }
 
-// The heads of a rule of this kind, as pairs from j on.
+// The heads of a rule of this kind, as pairs from j on; and their mark.
 fn write_heads(s: &[u8], kind: usize, at: usize, code: &mut [u32], j: usize) -> Reached
     requires { ⌜ PairsFit (now code) j (ones (headsTaken (now s) kind at)) ⌝ }
-    ensures { λ r. ⌜ ListCopied (now (code .entry)) j (headsTaken (now (s .entry)) kind at) (headsPast (now (s .entry)) kind at) (now (code .exit)) r ⌝ }
+    ensures { λ r. ⌜ ListCopied (now (code .entry)) j (headsTaken (now (s .entry)) kind at) (headsPast (now (s .entry)) kind at) 0 (now (code .exit)) r ⌝ }
 {
     if kind == CHOICE {
-        return copy_list(s, at, code, j);
+        return copy_list(s, at, code, j, 0);
     }
     let head = take_number(s, at);
     Reached {
@@ -91,31 +91,37 @@ fn need(kind: usize, bound: usize, length: usize) -> usize
     either(has_bound(kind), bound, length)
 }
 
-// The body at a place, weighed or not, as pairs from j on.
-fn write_body(s: &[u8], weighs: bool, at: usize, code: &mut [u32], j: usize) -> BodyEnds
+// The body at a place, weighed or not, as pairs from j on; and the mark with it.
+fn write_body(
+    s: &[u8],
+    weighs: bool,
+    at: usize,
+    code: &mut [u32],
+    j: usize,
+    before: usize,
+) -> BodyEnds
     requires { ⌜ BodyAsks (now s) weighs at (now code) j ⌝ }
-    ensures { λ r. ⌜ BodyPut (now (s .entry)) weighs at (now (code .entry)) j (now (code .exit)) r ⌝ }
+    ensures { λ r. ⌜ BodyPut (now (s .entry)) weighs at (now (code .entry)) j before (now (code .exit)) r ⌝ }
 {
-    let positive = copy_list(s, at, code, j);
-    let negated = copy_list(s, positive.next, code, positive.pair);
+    let positive = copy_list(s, at, code, j, before);
+    let negated = copy_list(s, positive.next, code, positive.pair, positive.mark);
     let negatives = positive.pair;
     let end = negated.pair;
     if weighs {
-        let above = copy_weights(s, negated.next, code, j, negatives);
-        let below = copy_weights(s, above.next, code, negatives, end);
-        let weights = blended(above.mark, below.mark);
+        let above = copy_weights(s, negated.next, code, j, negatives, negated.mark);
+        let below = copy_weights(s, above.next, code, negatives, end, above.mark);
         return BodyEnds {
             negatives,
             end,
             next: below.next,
-            mark: blended(positive.mark, blended(negated.mark, weights)),
+            mark: below.mark,
         };
     }
     BodyEnds {
         negatives,
         end,
         next: negated.next,
-        mark: blended(positive.mark, negated.mark),
+        mark: negated.mark,
     }
 }
 
@@ -138,7 +144,7 @@ fn write_row(
     set_word(code, ROW * i + 4, negatives);
 }
 
-// What comes after the heads and the bound of a rule: its body, as pairs from j on, and then its row; and the mark of its need and body.
+// What comes after the heads and the bound of a rule: its body, as pairs from j on, and then its row; and the mark with its body and need.
 pub(crate) fn write_rest(
     s: &[u8],
     kind: usize,
@@ -147,22 +153,23 @@ pub(crate) fn write_rest(
     i: usize,
     heads: usize,
     j: usize,
+    before: usize,
 ) -> Reached
     requires { ⌜ RestAsks (now s) kind bound (now code) i heads j ⌝ }
-    ensures { λ r. ⌜ RestPut (now (s .entry)) kind bound (now (code .entry)) i heads j (now (code .exit)) r ⌝ }
+    ensures { λ r. ⌜ RestPut (now (s .entry)) kind bound (now (code .entry)) i heads j before (now (code .exit)) r ⌝ }
 {
-    let body = write_body(s, kind == WEIGHT, bound.next, code, j);
+    let body = write_body(s, kind == WEIGHT, bound.next, code, j, before);
     let end = body.end;
     let due = need(kind, bound.value, end - j);
     write_row(code, i, kind, due, heads, j, body.negatives);
     Reached {
         pair: end,
         next: body.next,
-        mark: blended(due, body.mark),
+        mark: mixed(carried(body.mark), 0, due),
     }
 }
 
-// The rule at a place, as row i and as pairs from j on.
+// The rule at a place, as row i and as pairs from j on; and its mark.
 fn write_rule(s: &[u8], at: usize, code: &mut [u32], i: usize, j: usize) -> Reached
     requires { ⌜ RuleAsks (now s) at (now code) i j ⌝ }
     ensures { λ r. ⌜ RulePut (now (s .entry)) at (now (code .entry)) i j (now (code .exit)) r ⌝ }
@@ -170,12 +177,7 @@ fn write_rule(s: &[u8], at: usize, code: &mut [u32], i: usize, j: usize) -> Reac
     let kind = take_number(s, at);
     let heads = write_heads(s, kind.value, kind.next, code, j);
     let bound = take_bound(s, kind.value, heads.next);
-    let rest = write_rest(s, kind.value, bound, code, i, j, heads.pair);
-    Reached {
-        pair: rest.pair,
-        next: rest.next,
-        mark: blended(heads.mark, rest.mark),
-    }
+    write_rest(s, kind.value, bound, code, i, j, heads.pair, heads.mark)
 }
 
 // The row after a rule's: where the rule ends.

@@ -3,7 +3,7 @@ pub mod marks;
 pub mod same;
 pub mod slots;
 
-pub use marks::blended;
+pub use marks::carried;
 pub use marks::mixed;
 pub use slots::keep;
 

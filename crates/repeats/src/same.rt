@@ -2,8 +2,9 @@
 ghost use Prim.Native.Nat.{_+_, _-_, _≤_};
 ghost use mathlib.Core.Path.{_≡_};
 ghost use Rattle.rules.specs.Limits.{numberMost};
+ghost use Rattle.rules.specs.inner.Decides.{Decides};
 ghost use Rattle.table.specs.inner.Rows.{rowRule};
-ghost use Rattle.repeats.specs.inner.Same.{Decides, SameRuns, Filled};
+ghost use Rattle.repeats.specs.inner.Same.{SameRuns, Filled};
 use table::atom_at;
 use table::end_at;
 use table::heads_at;

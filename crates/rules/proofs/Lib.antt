@@ -1,6 +1,7 @@
 pub mod Fits
 pub mod Inside
 pub mod Tests
+pub mod Decides
 pub mod Sum
 pub mod Value
 pub mod Dead

@@ -6,7 +6,7 @@ use native.Mathlib.Omega.{arith}
 use lib.ListN.{length}
 use Rattle.rules.specs.Rule.{Weighted, ones}
 use Rattle.table.specs.inner.Words.{pairWidth}
-use Rattle.repeats.specs.inner.Marks.{listMark}
+use Rattle.repeats.specs.inner.Marks.{atomsMark}
 use Rattle.decode.specs.inner.Pairs.{withPairs, PairsFit, PairsCopied, ListCopied}
 use Rattle.decode.specs.declared.pairs.Reached.{Reached}
 use Rattle.decode.proofs.pairs.Laws.{pair-long, pairs-long}
@@ -51,9 +51,10 @@ pub copied-as : {c d : List ℕ} {j k : ℕ} {ls ms : List Weighted} → ls ≡ 
 copied-as {c} {d} {j} {k} e h = subst (λ (xs : List Weighted). PairsCopied c j xs d k) (sym e) h
 
 pub list-as :
-    {c d : List ℕ} {j m n : ℕ} {xs ys : List ℕ} {end : Reached} → xs ≡ ys → m ≡ n → ListCopied c j xs m d end → ListCopied c j ys n d end
-list-as e f h =
-    record { pairs = copied-as (ap ones (sym e)) (h .pairs); next = h .next ∙ f; mark = h .mark ∙ ap listMark e }
+    {c d : List ℕ} {j m n before : ℕ} {xs ys : List ℕ} {end : Reached} → xs ≡ ys → m ≡ n → ListCopied c j xs m before d end
+    → ListCopied c j ys n before d end
+list-as {before = before} e f h =
+    record { pairs = copied-as (ap ones (sym e)) (h .pairs); next = h .next ∙ f; mark = h .mark ∙ ap (atomsMark before) e }
 
 pub copied-long : {c d : List ℕ} {j k : ℕ} {ls : List Weighted} → PairsCopied c j ls d k → length d ≡ length c
 copied-long {c} {j = j} {ls = ls} h = ap length (h .code) ∙ pairs-long c j ls

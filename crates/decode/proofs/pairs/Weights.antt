@@ -1,7 +1,7 @@
 -- Weights that are written over those of some pairs: each touches the second word of its own pair alone. So over a list whose atoms have
 -- weight 1 they make up the list of the atoms with their weights, and pairs that come after do not matter.
 use Prim.Native.Nat.{ℕ, zero, suc, _+_, _*_, _-_, _≤_, _<_}
-use mathlib.Core.Path.{_≡_, refl, sym, _∙_, ap}
+use mathlib.Core.Path.{_≡_, refl, sym, _∙_, ap, ap₂}
 use mathlib.Core.List.{List, [], _∷_}
 use native.Mathlib.Omega.{arith}
 use lib.ListN.{length, set, length-set}
@@ -12,7 +12,7 @@ use Rattle.numbers.specs.declared.Span.{Span}
 use Rattle.numbers.proofs.lists.Numbers.{numbers-turn, numbers-over}
 use Rattle.sheet.specs.RuleMeaning.{paired}
 use Rattle.table.specs.inner.Words.{pairWidth}
-use Rattle.repeats.specs.inner.Marks.{mixed, mixedAll, listMark}
+use Rattle.repeats.specs.inner.Marks.{mixed, carried, mixedAll, weightsMark}
 use Rattle.repeats.proofs.marks.Laws.{mark-turn, mark-done}
 use Rattle.decode.specs.inner.Words.{withWords}
 use Rattle.decode.specs.inner.Taken.{numbersPast}
@@ -72,54 +72,62 @@ weights-long c j [] = refl
 weights-long c j (w ∷ ws) = weights-long (set c (pairWidth * j + 1) w) (j + 1) ws ∙ length-set c (pairWidth * j + 1) w
 
 -- what is left of the weights of the pairs from j to before another, the first of which is at a place, makes up all of them
-pub record WeightsLeft (s c₀ : List ℕ) (from to first : ℕ) (c : List ℕ) (j at mark : ℕ) : Type 0 where
+pub record WeightsLeft (s c₀ : List ℕ) (from to first before : ℕ) (c : List ℕ) (j at mark : ℕ) : Type 0 where
   pub low : from ≤ j
   pub high : j ≤ to
   pub code : withWeights c j (numbersFrom (to - j) s at) ≡ withWeights c₀ from (numbersFrom (to - from) s first)
   pub place : numbersPast (to - j) s at ≡ numbersPast (to - from) s first
-  pub marked : mixedAll mark (j - from) (numbersFrom (to - j) s at) ≡ listMark (numbersFrom (to - from) s first)
+  pub marked : mixedAll 1 mark (j - from) (numbersFrom (to - j) s at) ≡ weightsMark before (numbersFrom (to - from) s first)
   pub long : length c ≡ length c₀
 
-pub weights-begin : (s c : List ℕ) (from to first : ℕ) → from ≤ to → WeightsLeft s c from to first c from first 0
-weights-begin s c from to first h =
+pub weights-begin :
+    (s c : List ℕ) (from to first before : ℕ) → from ≤ to → {mark : ℕ} → mark ≡ carried before
+    → WeightsLeft s c from to first before c from first mark
+weights-begin s c from to first before h {mark} m =
     record {
       low = omega arith;
       high = h;
       code = refl;
       place = refl;
-      marked = let z : from - from ≡ 0 = omega arith in ap (λ (k : ℕ). mixedAll 0 k (numbersFrom (to - from) s first)) z;
+      marked = let z : from - from ≡ 0 = omega arith in ap₂ (λ (m k : ℕ). mixedAll 1 m k (numbersFrom (to - from) s first)) m z;
       long = refl;
     }
 
-module _ (s c₀ : List ℕ) (from to first : ℕ) (c : List ℕ) (j at mark : ℕ) (left : WeightsLeft s c₀ from to first c j at mark) where
-  pub weights-turn :
-      j < to → {p : Span} → p ≡ takenAt s at → {d : List ℕ} → d ≡ set c (pairWidth * j + 1) (p .value)
-      → {m : ℕ} → m ≡ mixed mark (j - from) (p .value) → WeightsLeft s c₀ from to first d (j + 1) (p .next) m
-  unfolding withWeights
-  weights-turn h {p} e {d} w {m} f =
-      let l = left .low in
-      let z : (j + 1) - from ≡ (j - from) + 1 = omega arith in
-      record {
-        low = omega arith;
-        high = omega arith;
-        code =
-            ap (λ (x : List ℕ). withWeights x (j + 1) (numbersFrom (to - (j + 1)) s (p .next))) w
-            ∙ sym (ap (withWeights c j) (numbers-turn s to j at h e))
-            ∙ left .code;
-        place = past-turn s to j at h e ∙ left .place;
-        marked =
-            ap (λ (k : ℕ). mixedAll m k (numbersFrom (to - (j + 1)) s (p .next))) z
-            ∙ mark-turn mark (j - from) (numbers-turn s to j at h e) f
-            ∙ left .marked;
-        long = ap length w ∙ length-set c (pairWidth * j + 1) (p .value) ∙ left .long;
-      }
+module _
+    (s c₀ : List ℕ)
+    (from to first before : ℕ)
+    (c : List ℕ)
+    (j at mark : ℕ)
+    (left : WeightsLeft s c₀ from to first before c j at mark)
+  where
+    pub weights-turn :
+        j < to → {p : Span} → p ≡ takenAt s at → {d : List ℕ} → d ≡ set c (pairWidth * j + 1) (p .value)
+        → {m : ℕ} → m ≡ mixed mark (j - from) (p .value) → WeightsLeft s c₀ from to first before d (j + 1) (p .next) m
+    unfolding withWeights
+    weights-turn h {p} e {d} w {m} f =
+        let l = left .low in
+        let z : (j + 1) - from ≡ (j - from) + 1 = omega arith in
+        record {
+          low = omega arith;
+          high = omega arith;
+          code =
+              ap (λ (x : List ℕ). withWeights x (j + 1) (numbersFrom (to - (j + 1)) s (p .next))) w
+              ∙ sym (ap (withWeights c j) (numbers-turn s to j at h e))
+              ∙ left .code;
+          place = past-turn s to j at h e ∙ left .place;
+          marked =
+              ap (λ (k : ℕ). mixedAll 1 m k (numbersFrom (to - (j + 1)) s (p .next))) z
+              ∙ mark-turn 1 mark (j - from) (numbers-turn s to j at h e) f
+              ∙ left .marked;
+          long = ap length w ∙ length-set c (pairWidth * j + 1) (p .value) ∙ left .long;
+        }
 
-  pub weights-done : to ≤ j → WeightsCopied s first c₀ from to c (record { next = at; mark = mark })
-  unfolding withWeights
-  weights-done h =
-      let over = numbers-over s to j at h in
-      record {
-        code = sym (ap (withWeights c j) over) ∙ left .code;
-        next = sym (past-over s to j at h) ∙ left .place;
-        mark = mark-done mark (j - from) over ∙ left .marked;
-      }
+    pub weights-done : to ≤ j → WeightsCopied s first c₀ from to before c (record { next = at; mark = mark })
+    unfolding withWeights
+    weights-done h =
+        let over = numbers-over s to j at h in
+        record {
+          code = sym (ap (withWeights c j) over) ∙ left .code;
+          next = sym (past-over s to j at h) ∙ left .place;
+          mark = mark-done 1 mark (j - from) over ∙ left .marked;
+        }

@@ -13,7 +13,7 @@ use Rattle.numbers.proofs.lists.Numbers.{numbers-count}
 use Rattle.sheet.specs.RuleMeaning.{paired}
 use Rattle.sheet.proofs.rule.Apart.{ones-atoms, weigh-atoms, weigh-weights, weigh-length}
 use Rattle.table.specs.inner.Words.{pairWidth}
-use Rattle.repeats.specs.inner.Marks.{listMark, blended, bodyMark}
+use Rattle.repeats.specs.inner.Marks.{atomsMark, weightsMark, bodyMark}
 use Rattle.decode.specs.inner.Taken.{numbersPast, listTaken, listPast, literalsTaken, literalsPast, bodyTaken}
 use Rattle.decode.specs.inner.Pairs.{withPairs, withWeights, PairsFit, PairsCopied, ListCopied, WeightsCopied}
 use Rattle.decode.specs.inner.Rows.{BodyAsks, BodyPut}
@@ -41,12 +41,13 @@ literals-length s false xs at = length-map xs one
 
 -- the mark of literals is that of the lists they were taken from
 literals-mark :
-    (s : List ℕ) (weighs : Bool) (xs ys : List ℕ) (m n : ℕ)
-    → bodyMark weighs (literalsTaken s weighs xs m) (literalsTaken s weighs ys n)
-    ≡ blended (listMark xs)
-    (pick weighs (blended (listMark ys) (blended (listMark (numbersFrom (length xs) s m)) (listMark (numbersFrom (length ys) s n)))) (listMark ys))
+    (s : List ℕ) (before : ℕ) (weighs : Bool) (xs ys : List ℕ) (m n : ℕ)
+    → bodyMark before weighs (literalsTaken s weighs xs m) (literalsTaken s weighs ys n)
+    ≡ pick weighs
+    (weightsMark (weightsMark (atomsMark (atomsMark before xs) ys) (numbersFrom (length xs) s m)) (numbersFrom (length ys) s n))
+    (atomsMark (atomsMark before xs) ys)
 unfolding bodyMark literalsTaken pick
-literals-mark s true xs ys m n =
+literals-mark s before true xs ys m n =
     let vs = numbersFrom (length xs) s m in
     let ws = numbersFrom (length ys) s n in
     let e : length xs ≡ length vs = sym (numbers-count s (length xs) m) in
@@ -56,13 +57,13 @@ literals-mark s true xs ys m n =
     let v : weightsOf (paired xs vs) ≡ vs = weigh-weights xs vs e in
     let w : weightsOf (paired ys ws) ≡ ws = weigh-weights ys ws f in
     cc
-literals-mark s false xs ys m n =
-    ap₂ (λ (us vs : List ℕ). blended (listMark us) (listMark vs)) (ones-atoms xs) (ones-atoms ys)
+literals-mark s before false xs ys m n =
+    ap₂ (λ (us vs : List ℕ). atomsMark (atomsMark before us) vs) (ones-atoms xs) (ones-atoms ys)
 
 abbrev pub ends : ℕ → ℕ → ℕ → ℕ → BodyEnds
 ends negatives end next mark = record { negatives = negatives; end = end; next = next; mark = mark }
 
-module _ (s : List ℕ) (weighs : Bool) (at : ℕ) (c : List ℕ) (j : ℕ) (asks : BodyAsks s weighs at c j) where
+module _ (s : List ℕ) (weighs : Bool) (at : ℕ) (c : List ℕ) (j before : ℕ) (asks : BodyAsks s weighs at c j) where
   abbrev xs : List ℕ
   xs = listTaken s at
 
@@ -84,7 +85,7 @@ module _ (s : List ℕ) (weighs : Bool) (at : ℕ) (c : List ℕ) (j : ℕ) (ask
   unfolding pairWidth
   first-fits = record { room = omega (arith, room, length-map xs one) }
 
-  module _ {c₁ : List ℕ} (p : Reached) (first : ListCopied c j xs (listPast s at) c₁ p) where
+  module _ {c₁ : List ℕ} (p : Reached) (first : ListCopied c j xs (listPast s at) before c₁ p) where
     middle : p .pair ≡ j + length xs
     middle = omega (arith, first .pairs .end, length-map xs one)
 
@@ -96,8 +97,8 @@ module _ (s : List ℕ) (weighs : Bool) (at : ℕ) (c : List ℕ) (j : ℕ) (ask
     second-fits =
         asks-as (ap ones (sym next-list)) (record { room = omega (arith, room, middle, length-map ys one, copied-long (first .pairs)) })
 
-    module _ {c₂ : List ℕ} (q : Reached) (next : ListCopied c₁ (p .pair) (listTaken s (p .next)) (listPast s (p .next)) c₂ q) where
-      second : ListCopied c₁ (p .pair) ys (listPast s (listPast s at)) c₂ q
+    module _ {c₂ : List ℕ} (q : Reached) (next : ListCopied c₁ (p .pair) (listTaken s (p .next)) (listPast s (p .next)) (p .mark) c₂ q) where
+      second : ListCopied c₁ (p .pair) ys (listPast s (listPast s at)) (p .mark) c₂ q
       second = list-as next-list (ap (listPast s) (first .next)) next
 
       written : PairsCopied c₁ (p .pair) (ones ys) c₂ (q .pair)
@@ -115,8 +116,8 @@ module _ (s : List ℕ) (weighs : Bool) (at : ℕ) (c : List ℕ) (j : ℕ) (ask
       made :
           {d : List ℕ} {next mark : ℕ} → d ≡ withPairs (withPairs c j (bodyTaken s weighs at .pos)) (p .pair) (bodyTaken s weighs at .neg)
           → next ≡ bodyTaken s weighs at .next
-          → mark ≡ bodyMark weighs (bodyTaken s weighs at .pos) (bodyTaken s weighs at .neg)
-          → BodyPut s weighs at c j d (ends (p .pair) (q .pair) next mark)
+          → mark ≡ bodyMark before weighs (bodyTaken s weighs at .pos) (bodyTaken s weighs at .neg)
+          → BodyPut s weighs at c j before d (ends (p .pair) (q .pair) next mark)
       made e f g =
           let z : p .pair ≡ j + length (bodyTaken s weighs at .pos) = omega (arith, middle, pos-length) in
           record {
@@ -136,15 +137,14 @@ module _ (s : List ℕ) (weighs : Bool) (at : ℕ) (c : List ℕ) (j : ℕ) (ask
         unfolding bodyTaken literalsPast pick
         plain-next = simp e (second .next)
 
-        plain-mark : blended (p .mark) (q .mark) ≡ bodyMark weighs (bodyTaken s weighs at .pos) (bodyTaken s weighs at .neg)
+        plain-mark : q .mark ≡ bodyMark before weighs (bodyTaken s weighs at .pos) (bodyTaken s weighs at .neg)
         unfolding bodyTaken literalsPast pick
         plain-mark =
-            ap₂ blended (first .mark) (second .mark)
-            ∙ sym (literals-mark s weighs xs ys place (literalsPast s weighs xs place) ∙ simp e refl)
+            second .mark ∙ ap (λ (m : ℕ). atomsMark m ys) (first .mark)
+            ∙ sym (literals-mark s before weighs xs ys place (literalsPast s weighs xs place) ∙ simp e refl)
 
-        pub plain-put :
-            {mark : ℕ} → mark ≡ blended (p .mark) (q .mark) → BodyPut s weighs at c j c₂ (ends (p .pair) (q .pair) (q .next) mark)
-        plain-put m = made plain-code plain-next (m ∙ plain-mark)
+        pub plain-put : BodyPut s weighs at c j before c₂ (ends (p .pair) (q .pair) (q .next) (q .mark))
+        plain-put = made plain-code plain-next plain-mark
 
       pub above-asks : (j ≤ p .pair) × (pairWidth * p .pair ≤ length c₂)
       unfolding pairWidth
@@ -153,7 +153,7 @@ module _ (s : List ℕ) (weighs : Bool) (at : ℕ) (c : List ℕ) (j : ℕ) (ask
       module _
           {c₃ : List ℕ}
           (v : WeightsEnd)
-          (above : WeightsCopied s (q .next) c₂ j (p .pair) c₃ v)
+          (above : WeightsCopied s (q .next) c₂ j (p .pair) (q .mark) c₃ v)
         where
           pub below-asks : (p .pair ≤ q .pair) × (pairWidth * q .pair ≤ length c₃)
           unfolding pairWidth
@@ -185,7 +185,7 @@ module _ (s : List ℕ) (weighs : Bool) (at : ℕ) (c : List ℕ) (j : ℕ) (ask
           ws-are : numbersFrom (q .pair - p .pair) s (v .next) ≡ ws
           ws-are = ap₂ (λ (k m : ℕ). numbersFrom k s m) (omega (arith, end)) v-is
 
-          module _ (e : weighs ≡ true) {d : List ℕ} (w : WeightsEnd) (below : WeightsCopied s (v .next) c₃ (p .pair) (q .pair) d w) where
+          module _ (e : weighs ≡ true) {d : List ℕ} (w : WeightsEnd) (below : WeightsCopied s (v .next) c₃ (p .pair) (q .pair) (v .mark) d w) where
             weighed-code : d ≡ withPairs (withPairs c j (bodyTaken s weighs at .pos)) (p .pair) (bodyTaken s weighs at .neg)
             unfolding bodyTaken literalsTaken literalsPast pick
             weighed-code =
@@ -200,22 +200,15 @@ module _ (s : List ℕ) (weighs : Bool) (at : ℕ) (c : List ℕ) (j : ℕ) (ask
             unfolding bodyTaken literalsPast pick
             weighed-next = simp e (below .next ∙ ap₂ (λ (k m : ℕ). numbersPast k s m) (omega (arith, end)) v-is)
 
-            weighed-mark :
-                blended (p .mark) (blended (q .mark) (blended (v .mark) (w .mark)))
-                ≡ bodyMark weighs (bodyTaken s weighs at .pos) (bodyTaken s weighs at .neg)
+            weighed-mark : w .mark ≡ bodyMark before weighs (bodyTaken s weighs at .pos) (bodyTaken s weighs at .neg)
             unfolding bodyTaken literalsPast pick
             weighed-mark =
-                let a : p .mark ≡ listMark xs = first .mark in
-                let b : q .mark ≡ listMark ys = second .mark in
-                let f : v .mark ≡ listMark vs = above .mark ∙ ap listMark vs-are in
-                let g : w .mark ≡ listMark ws = below .mark ∙ ap listMark ws-are in
-                let h :
-                blended (p .mark) (blended (q .mark) (blended (v .mark) (w .mark)))
-                ≡ blended (listMark xs) (blended (listMark ys) (blended (listMark vs) (listMark ws))) =
-                cc in
-                h ∙ sym (literals-mark s weighs xs ys place (literalsPast s weighs xs place) ∙ simp e refl)
+                let a : p .mark ≡ atomsMark before xs = first .mark in
+                let b : q .mark ≡ atomsMark (p .mark) ys = second .mark in
+                let f : v .mark ≡ weightsMark (q .mark) vs = above .mark ∙ ap (weightsMark (q .mark)) vs-are in
+                let g : w .mark ≡ weightsMark (v .mark) ws = below .mark ∙ ap (weightsMark (v .mark)) ws-are in
+                let h : w .mark ≡ weightsMark (weightsMark (atomsMark (atomsMark before xs) ys) vs) ws = cc in
+                h ∙ sym (literals-mark s before weighs xs ys place (literalsPast s weighs xs place) ∙ simp e refl)
 
-            pub weighed-put :
-                {mark : ℕ} → mark ≡ blended (p .mark) (blended (q .mark) (blended (v .mark) (w .mark)))
-                → BodyPut s weighs at c j d (ends (p .pair) (q .pair) (w .next) mark)
-            weighed-put m = made weighed-code weighed-next (m ∙ weighed-mark)
+            pub weighed-put : BodyPut s weighs at c j before d (ends (p .pair) (q .pair) (w .next) (w .mark))
+            weighed-put = made weighed-code weighed-next weighed-mark

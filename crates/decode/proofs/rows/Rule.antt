@@ -17,7 +17,7 @@ use Rattle.numbers.proofs.number.Taken.{taken-most}
 use Rattle.sheet.specs.shown.Encode.{rulesSize}
 use Rattle.table.specs.inner.Words.{rowWidth, pairWidth}
 use Rattle.table.specs.inner.Rows.{kindOf}
-use Rattle.repeats.specs.inner.Marks.{listMark, blended, bodyMark, ruleMark}
+use Rattle.repeats.specs.inner.Marks.{mixed, carried, mixedAll, atomsMark, bodyMark, ruleMark}
 use Rattle.decode.specs.inner.Taken.{listTaken, listPast, Body, bodyLength, restTaken, hasBound, headsTaken, headsPast, boundTaken, needTaken, ruleOf, ruleBound, ruleTaken, rulePast}
 use Rattle.decode.specs.inner.Pairs.{withPairs, PairsFit, PairsCopied, ListCopied}
 use Rattle.decode.specs.inner.Rows.{positivesFrom, negativesFrom, endFrom, withBody, withRow, withRule, BodyPut, RowAsks, RestAsks, RestPut, RuleAsks, RulePut}
@@ -64,14 +64,14 @@ module _ (s : List ℕ) (kind at : ℕ) where
     one-past = simp (ne-eqb kind (kindNumber choice) f) (ap (λ (q : Span). q .next) e)
 
 -- the body and the row
-module _ (s : List ℕ) (kind : ℕ) (bound : Span) (c : List ℕ) (i heads j : ℕ) (asks : RestAsks s kind bound c i heads j) where
+module _ (s : List ℕ) (kind : ℕ) (bound : Span) (c : List ℕ) (i heads j before : ℕ) (asks : RestAsks s kind bound c i heads j) where
   abbrev body : Body
   body = restTaken s kind bound
 
   module _
       {c₁ : List ℕ}
       (ends : BodyEnds)
-      (put : BodyPut s (eqb kind (kindNumber weight)) (bound .next) c j c₁ ends)
+      (put : BodyPut s (eqb kind (kindNumber weight)) (bound .next) c j before c₁ ends)
       {need : ℕ}
       (due : need ≡ needTaken kind (bound .value) (ends .end - j))
     where
@@ -81,21 +81,26 @@ module _ (s : List ℕ) (kind : ℕ) (bound : Span) (c : List ℕ) (i heads j : 
       long : length c₁ ≡ length c
       long = ap length (put .code) ∙ pairs-long _ _ (body .neg) ∙ pairs-long c j (body .pos)
 
+      pub need-fits : need ≤ numberMost
+      need-fits =
+          subst (λ (k : ℕ). k ≤ numberMost) (sym need-is)
+          (need-most kind (bound .value) (bodyLength body) (asks .boundMost) (omega (arith, asks .few)))
+
       pub row-asks : RowAsks c₁ i kind need heads j (ends .negatives)
       row-asks =
           record {
             room = omega (arith, asks .row, long);
             kindMost = asks .kindMost;
-            needMost =
-                subst (λ (k : ℕ). k ≤ numberMost) (sym need-is)
-                (need-most kind (bound .value) (bodyLength body) (asks .boundMost) (omega (arith, asks .few)));
+            needMost = need-fits;
             order = (asks .order, omega (arith, put .negatives), omega (arith, put .negatives, asks .few));
           }
 
       pub rest-put :
-          {d : List ℕ} {mark : ℕ} → d ≡ withRow c₁ i kind need heads j (ends .negatives) → mark ≡ blended need (ends .mark)
-          → RestPut s kind bound c i heads j d (record { pair = ends .end; next = ends .next; mark = mark })
-      rest-put e m =
+          {d : List ℕ} {last mark : ℕ} → d ≡ withRow c₁ i kind need heads j (ends .negatives) → last ≡ carried (ends .mark)
+          → mark ≡ mixed last 0 need
+          → RestPut s kind bound c i heads j before d (record { pair = ends .end; next = ends .next; mark = mark })
+      unfolding mixedAll
+      rest-put e l m =
           record {
             code =
                 e
@@ -103,7 +108,7 @@ module _ (s : List ℕ) (kind : ℕ) (bound : Span) (c : List ℕ) (i heads j : 
                 ∙ ap (withRow _ i kind _ heads j) (put .negatives);
             pair = put .end;
             place = put .next;
-            mark = m ∙ ap₂ blended need-is (put .mark);
+            mark = m ∙ ap₂ (λ (x k : ℕ). mixed x 0 k) (l ∙ ap carried (put .mark)) need-is;
           }
 
 -- the whole rule
@@ -124,7 +129,7 @@ module _ (s : List ℕ) (at : ℕ) (c : List ℕ) (i j : ℕ) (asks : RuleAsks s
     module _
         {c₁ : List ℕ}
         (h : Reached)
-        (heads : ListCopied c j (headsTaken s (k .value) (k .next)) (headsPast s (k .value) (k .next)) c₁ h)
+        (heads : ListCopied c j (headsTaken s (k .value) (k .next)) (headsPast s (k .value) (k .next)) 0 c₁ h)
         (b : Span)
         (bound : b ≡ boundTaken s (k .value) (h .next))
       where
@@ -157,28 +162,24 @@ module _ (s : List ℕ) (at : ℕ) (c : List ℕ) (i j : ℕ) (asks : RuleAsks s
               boundMost = subst (λ (q : Span). q .value ≤ numberMost) (sym bound) (bound-most s (k .value) (h .next));
             }
 
-        -- the need and the body have their mark, and the heads theirs
+        -- the mark of the heads, with the body and the need, is that of the rule
         rest-mark :
-            blended (needTaken (k .value) (b .value) (bodyLength (restTaken s (k .value) b)))
-            (bodyMark (eqb (k .value) (kindNumber weight)) (restTaken s (k .value) b .pos) (restTaken s (k .value) b .neg))
-            ≡ blended (rule .need) (bodyMark (eqb (kindNumber (rule .kind)) (kindNumber weight)) (rule .pos) (rule .neg))
-        unfolding ruleTaken
+            atomsMark
+            (bodyMark (h .mark) (eqb (k .value) (kindNumber weight)) (restTaken s (k .value) b .pos) (restTaken s (k .value) b .neg))
+            (needTaken (k .value) (b .value) (bodyLength (restTaken s (k .value) b)) ∷ [])
+            ≡ ruleMark rule
+        unfolding ruleMark ruleTaken
         rest-mark =
+            let x : h .mark ≡ atomsMark 0 (rule .heads) = heads .mark ∙ ap (atomsMark 0) heads-are in
             let y = body-is in
             let z = bound-is in
             let v : k .value ≡ takenAt s at .value = ap (λ (q : Span). q .value) taken in
             let u = asks .kind in
             cc
 
-        whole-mark : (end : Reached) → {d : List ℕ} → RestPut s (k .value) b c₁ i j (h .pair) d end → blended (h .mark) (end .mark) ≡ ruleMark rule
-        unfolding ruleMark
-        whole-mark end rest = ap₂ blended (heads .mark ∙ ap listMark heads-are) (rest .mark ∙ rest-mark)
-
-        pub rule-put :
-            {d : List ℕ} (end : Reached) {mark : ℕ} → RestPut s (k .value) b c₁ i j (h .pair) d end → mark ≡ blended (h .mark) (end .mark)
-            → RulePut s at c i j d (record { pair = end .pair; next = end .next; mark = mark })
+        pub rule-put : {d : List ℕ} (end : Reached) → RestPut s (k .value) b c₁ i j (h .pair) (h .mark) d end → RulePut s at c i j d end
         unfolding ruleTaken rulePast withRule withBody positivesFrom negativesFrom endFrom
-        rule-put end rest m =
+        rule-put end rest =
             let x = written .code in
             let y = body-is in
             let z = bound-is in
@@ -188,12 +189,13 @@ module _ (s : List ℕ) (at : ℕ) (c : List ℕ) (i j : ℕ) (asks : RuleAsks s
               code = cc (rest .code);
               pair = omega (arith, rest .pair, first, ap bodyLength body-is);
               place = rest .place ∙ ap (λ (d : Body). d .next) body-is;
-              mark = m ∙ whole-mark end rest;
+              mark = rest .mark ∙ rest-mark;
             }
 
 -- a rule with no heads, of which only the rest is written
 pub headless :
-    (s : List ℕ) (bound : Span) (c : List ℕ) (i j : ℕ) {d : List ℕ} (end : Reached) → RestPut s (kindNumber choice) bound c i j j d end
+    (s : List ℕ) (bound : Span) (c : List ℕ) (i j : ℕ) {before : ℕ} {d : List ℕ} (end : Reached)
+    → RestPut s (kindNumber choice) bound c i j j before d end
     → (d ≡ withRule c i j (ruleOf s (kindNumber choice) [] bound)) × (end .pair ≡ endFrom j (ruleOf s (kindNumber choice) [] bound))
 unfolding withRule withBody withPairs positivesFrom negativesFrom endFrom kindOf
 headless s bound c i j end rest =

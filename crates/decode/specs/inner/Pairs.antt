@@ -8,7 +8,7 @@ use Rattle.rules.specs.Limits.{numberMost}
 use Rattle.rules.specs.Rule.{Weighted, ones}
 use Rattle.numbers.specs.Lists.{numbersFrom}
 use Rattle.table.specs.inner.Words.{pairWidth}
-use Rattle.repeats.specs.inner.Marks.{listMark}
+use Rattle.repeats.specs.inner.Marks.{atomsMark, weightsMark}
 use Rattle.decode.specs.inner.Words.{withWords}
 use Rattle.decode.specs.inner.Taken.{numbersPast}
 use Rattle.decode.specs.declared.pairs.Reached.{Reached}
@@ -41,14 +41,15 @@ pub record PairsCopied (c : List ℕ) (j : ℕ) (ls : List Weighted) (c′ : Lis
   pub code : c′ ≡ withPairs c j ls
   pub end : next ≡ j + length ls
 
--- these atoms were written from pair j on, each with weight 1, and end at a place of the sheet; and their mark
-pub record ListCopied (c : List ℕ) (j : ℕ) (xs : List ℕ) (past : ℕ) (c′ : List ℕ) (end : Reached) : Type 0 where
+-- these atoms were written from pair j on, each with weight 1, and end at a place of the sheet; and the mark before, with them
+pub record ListCopied (c : List ℕ) (j : ℕ) (xs : List ℕ) (past before : ℕ) (c′ : List ℕ) (end : Reached) : Type 0 where
   pub pairs : PairsCopied c j (ones xs) c′ (end .pair)
   pub next : end .next ≡ past
-  pub mark : end .mark ≡ listMark xs
+  pub mark : end .mark ≡ atomsMark before xs
 
--- the weights that stand at a place of the sheet were written over those of the pairs from one to before another; and their mark
-pub record WeightsCopied (s : List ℕ) (first : ℕ) (c : List ℕ) (from to : ℕ) (c′ : List ℕ) (end : WeightsEnd) : Type 0 where
+-- the weights that stand at a place of the sheet were written over those of the pairs from one to before another; and the mark before,
+-- with them
+pub record WeightsCopied (s : List ℕ) (first : ℕ) (c : List ℕ) (from to before : ℕ) (c′ : List ℕ) (end : WeightsEnd) : Type 0 where
   pub code : c′ ≡ withWeights c from (numbersFrom (to - from) s first)
   pub next : end .next ≡ numbersPast (to - from) s first
-  pub mark : end .mark ≡ listMark (numbersFrom (to - from) s first)
+  pub mark : end .mark ≡ weightsMark before (numbersFrom (to - from) s first)

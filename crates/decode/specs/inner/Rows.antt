@@ -12,7 +12,7 @@ use Rattle.numbers.specs.declared.Span.{Span}
 use Rattle.sheet.specs.shown.Encode.{rulesSize}
 use Rattle.table.specs.inner.Words.{rowWidth, pairWidth, seg}
 use Rattle.table.specs.inner.Rows.{kindAt, needAt, headsAt, positivesAt, negativesAt, endAt, rowRule}
-use Rattle.repeats.specs.inner.Marks.{blended, bodyMark, ruleMark}
+use Rattle.repeats.specs.inner.Marks.{atomsMark, bodyMark, ruleMark}
 use Rattle.decode.specs.inner.Words.{withWords}
 use Rattle.decode.specs.inner.Taken.{Body, bodyTaken, bodyLength, restTaken, needTaken, kindTaken, ruleTaken, rulePast}
 use Rattle.decode.specs.inner.Pairs.{withPairs}
@@ -81,13 +81,13 @@ pub record BodyAsks (s : List ℕ) (weighs : Bool) (at : ℕ) (c : List ℕ) (j 
 abbrev pub withLiterals : List ℕ → ℕ → Body → List ℕ
 withLiterals c j body = withPairs (withPairs c j (body .pos)) (j + length (body .pos)) (body .neg)
 
--- the body at a place was written from pair j on
-pub record BodyPut (s : List ℕ) (weighs : Bool) (at : ℕ) (c : List ℕ) (j : ℕ) (c′ : List ℕ) (ends : BodyEnds) : Type 0 where
+-- the body at a place was written from pair j on; and the mark before, with it
+pub record BodyPut (s : List ℕ) (weighs : Bool) (at : ℕ) (c : List ℕ) (j before : ℕ) (c′ : List ℕ) (ends : BodyEnds) : Type 0 where
   pub code : c′ ≡ withLiterals c j (bodyTaken s weighs at)
   pub negatives : ends .negatives ≡ j + length (bodyTaken s weighs at .pos)
   pub end : ends .end ≡ j + bodyLength (bodyTaken s weighs at)
   pub next : ends .next ≡ bodyTaken s weighs at .next
-  pub mark : ends .mark ≡ bodyMark weighs (bodyTaken s weighs at .pos) (bodyTaken s weighs at .neg)
+  pub mark : ends .mark ≡ bodyMark before weighs (bodyTaken s weighs at .pos) (bodyTaken s weighs at .neg)
 
 -- what a rule needs whose heads stand from one pair on, and whose body follows its bound: room, and numbers of a sheet
 pub record RestAsks (s : List ℕ) (kind : ℕ) (bound : Span) (c : List ℕ) (i heads j : ℕ) : Type 0 where
@@ -98,7 +98,7 @@ pub record RestAsks (s : List ℕ) (kind : ℕ) (bound : Span) (c : List ℕ) (i
   pub kindMost : kind ≤ numberMost
   pub boundMost : bound .value ≤ numberMost
 
-pub record RestPut (s : List ℕ) (kind : ℕ) (bound : Span) (c : List ℕ) (i heads j : ℕ) (c′ : List ℕ) (end : Reached) : Type 0 where
+pub record RestPut (s : List ℕ) (kind : ℕ) (bound : Span) (c : List ℕ) (i heads j before : ℕ) (c′ : List ℕ) (end : Reached) : Type 0 where
   pub code :
       c′
       ≡ withRow (withLiterals c j (restTaken s kind bound)) i kind
@@ -110,8 +110,8 @@ pub record RestPut (s : List ℕ) (kind : ℕ) (bound : Span) (c : List ℕ) (i 
   pub place : end .next ≡ restTaken s kind bound .next
   pub mark :
       end .mark
-      ≡ blended (needTaken kind (bound .value) (bodyLength (restTaken s kind bound)))
-      (bodyMark (eqb kind (kindNumber weight)) (restTaken s kind bound .pos) (restTaken s kind bound .neg))
+      ≡ atomsMark (bodyMark before (eqb kind (kindNumber weight)) (restTaken s kind bound .pos) (restTaken s kind bound .neg))
+      (needTaken kind (bound .value) (bodyLength (restTaken s kind bound)) ∷ [])
 
 -- the rule at a place is one of the four kinds, and there is room for it
 pub record RuleAsks (s : List ℕ) (at : ℕ) (c : List ℕ) (i j : ℕ) : Type 0 where

@@ -10,13 +10,13 @@ use Rattle.repeats.specs.inner.Marks.{markCount, mixed, mixedAll}
 pub placed-most : (place x : ℕ) → x ≤ numberMost → x * ((place % markCount + x) * 2 + 1) ≤ numberMost * ((place % markCount + x) * 2 + 1)
 placed-most place x h = mul-le-mul-right ((place % markCount + x) * 2 + 1) h
 
-module _ (mark place : ℕ) {left : List ℕ} where
+module _ (step mark place : ℕ) {left : List ℕ} where
   pub mark-turn :
       {x next : ℕ} {xs : List ℕ} → left ≡ x ∷ xs → next ≡ mixed mark place x
-      → mixedAll next (place + 1) xs ≡ mixedAll mark place left
+      → mixedAll step next (place + step) xs ≡ mixedAll step mark place left
   unfolding mixedAll
-  mark-turn {xs = xs} e f = ap (λ (m : ℕ). mixedAll m (place + 1) xs) f ∙ sym (ap (mixedAll mark place) e)
+  mark-turn {xs = xs} e f = ap (λ (m : ℕ). mixedAll step m (place + step) xs) f ∙ sym (ap (mixedAll step mark place) e)
 
-  pub mark-done : left ≡ [] → mark ≡ mixedAll mark place left
+  pub mark-done : left ≡ [] → mark ≡ mixedAll step mark place left
   unfolding mixedAll
-  mark-done e = sym (ap (mixedAll mark place) e)
+  mark-done e = sym (ap (mixedAll step mark place) e)

@@ -8,24 +8,14 @@ use mathlib.Core.Logic.{⊎-elim}
 use native.Mathlib.Omega.{arith}
 use lib.ListN.{length}
 use Rattle.rules.specs.Rule.{Rule, weighted, atomsOf, ones}
+use Rattle.rules.specs.inner.Decides.{Decides}
 use Rattle.rules.proofs.Tests.{below?}
+use Rattle.rules.proofs.Decides.{decides-as}
 use Rattle.rules.proofs.Same.{rule-made}
 use Rattle.table.specs.inner.Words.{pairAtom, pairWeight, pairAt, pairsFrom, seg, segAtoms}
 use Rattle.table.specs.inner.Rows.{kindAt, needAt, headsAt, positivesAt, negativesAt, endAt, rowRule}
 use Rattle.table.proofs.parts.Laws.{seg-length}
-use Rattle.repeats.specs.inner.Same.{Decides, SameRuns, Filled}
-
--- what an answer tells
-pub is-so : {b : Bool} {Q : Type 0} → b ≡ true → Decides b Q → Q
-is-so {Q = Q} e d = subst (λ (b : Bool). Decides b Q) e d .decides
-
-pub not-so : {b : Bool} {Q : Type 0} → b ≡ false → Decides b Q → Q → ⊥
-not-so {Q = Q} e d = subst (λ (b : Bool). Decides b Q) e d .decides
-
--- what is told of a fact is told of one that is so exactly when it is
-pub decides-as : (b : Bool) {P Q : Type 0} → (P → Q) → (Q → P) → Decides b P → Decides b Q
-decides-as true f g d = record { decides = f (d .decides) }
-decides-as false f g d = record { decides = λ q. d .decides (g q) }
+use Rattle.repeats.specs.inner.Same.{SameRuns, Filled}
 
 -- places that were read are as far apart as those that stand there
 pub as-far :

@@ -1,7 +1,7 @@
--- The mark of a rule, by which it is found: a number that rules have in common when they are the same. It is summed up list by list, each
--- number times an odd number made of it and its place, so that rules that differ in little seldom share a slot; what a mark is made of is
--- cut down first, so that the sum is no longer than a word.
-use Prim.Native.Nat.{ℕ, _+_, _*_, _%_}
+-- The mark of a rule, by which it is found: a number that rules have in common when they are the same. It is summed up list by list: each
+-- number of a list times an odd number made of it and its place, and the whole sum times another number where the next list begins, so that
+-- rules that differ in little seldom share a slot. What is multiplied is cut down first, and a sum is what a word has of it.
+use Prim.Native.Nat.{ℕ, _+_, _*_, _%_, _^_}
 use mathlib.Core.Bool.{Bool}
 use mathlib.Core.List.{List, [], _∷_}
 use lib.Dec.{eqb}
@@ -12,32 +12,41 @@ use Rattle.rules.specs.Rule.{Rule, Weighted, weight, kindNumber, atomsOf, weigh
 unfoldable pub slotCount : ℕ
 slotCount = 8192
 
--- marks are cut down to so many
+-- marks and places are cut down to so many
 unfoldable pub markCount : ℕ
 markCount = 4294967296
 
 -- a mark and one number more, at its place in a list
 unfoldable pub mixed : ℕ → ℕ → ℕ → ℕ
-mixed mark place x = mark % markCount + x * ((place % markCount + x) * 2 + 1)
+mixed mark place x = (mark + x * ((place % markCount + x) * 2 + 1)) % 2 ^ 64
 
-unfoldable pub mixedAll : ℕ → ℕ → List ℕ → ℕ
-mixedAll mark place [] = mark
-mixedAll mark place (x ∷ xs) = mixedAll (mixed mark place x) (place + 1) xs
+-- a mark, where the next list begins
+unfoldable pub carried : ℕ → ℕ
+carried mark = mark % markCount * 487
 
-abbrev pub listMark : List ℕ → ℕ
-listMark xs = mixedAll 0 0 xs
+-- with the numbers of a list, whose places are so far apart
+unfoldable pub mixedAll : ℕ → ℕ → ℕ → List ℕ → ℕ
+mixedAll step mark place [] = mark
+mixedAll step mark place (x ∷ xs) = mixedAll step (mixed mark place x) (place + step) xs
 
--- of two parts that have marks
-unfoldable pub blended : ℕ → ℕ → ℕ
-blended one two = one % markCount + two % markCount * 487
+abbrev pub listMark : ℕ → ℕ → List ℕ → ℕ
+listMark step mark xs = mixedAll step (carried mark) 0 xs
 
--- of the literals of a body, with their weights where it is weighed
-unfoldable pub bodyMark : Bool → List Weighted → List Weighted → ℕ
-bodyMark weighs pos neg =
-    blended (listMark (atomsOf pos))
-    (pick weighs (blended (listMark (atomsOf neg)) (blended (listMark (weightsOf pos)) (listMark (weightsOf neg)))) (listMark (atomsOf neg)))
+-- the atoms of a list go up, so that their places say nothing more; weights do not
+abbrev pub atomsMark : ℕ → List ℕ → ℕ
+atomsMark = listMark 0
+
+abbrev pub weightsMark : ℕ → List ℕ → ℕ
+weightsMark = listMark 1
+
+-- with the literals of a body, and with their weights where it is weighed
+unfoldable pub bodyMark : ℕ → Bool → List Weighted → List Weighted → ℕ
+bodyMark mark weighs pos neg =
+    pick weighs (weightsMark (weightsMark (atomsMark (atomsMark mark (atomsOf pos)) (atomsOf neg)) (weightsOf pos)) (weightsOf neg))
+    (atomsMark (atomsMark mark (atomsOf pos)) (atomsOf neg))
 
 unfoldable pub ruleMark : Rule → ℕ
 ruleMark r =
-    blended (listMark (r .heads))
-    (blended (r .need) (bodyMark (eqb (kindNumber (r .kind)) (kindNumber weight)) (r .pos) (r .neg)))
+    atomsMark
+    (bodyMark (atomsMark 0 (r .heads)) (eqb (kindNumber (r .kind)) (kindNumber weight)) (r .pos) (r .neg))
+    (r .need ∷ [])

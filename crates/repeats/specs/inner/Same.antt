@@ -1,19 +1,10 @@
 -- "Two rules are the same when kind, heads, need, body and weights are all equal": the rules of two rows of a table, told by their words.
 use Prim.Native.Nat.{ℕ, _+_, _-_, _≤_, _<_}
 use mathlib.Core.Path.{_≡_}
-use mathlib.Core.Bool.{Bool, true, false}
 use mathlib.Core.List.{List}
 use Rattle.rules.specs.Limits.{numberMost}
 use Rattle.table.specs.inner.Words.{pairAt, pairWeight}
 use Rattle.table.specs.inner.Rows.{headsAt, positivesAt, negativesAt, endAt}
-
--- an answer tells whether it is so
-abbrev pub Whether : Bool → Type 0 → Type 0
-Whether true Q = Q
-Whether false Q = Q → ⊥
-
-pub record Decides (b : Bool) (Q : Type 0) : Type 0 where
-  pub decides : Whether b Q
 
 -- the pairs from one place to before another are those from a third place on
 abbrev pub SameRuns : List ℕ → ℕ → ℕ → ℕ → Type 0

@@ -11,13 +11,16 @@ use Rattle.decode.proofs.pairs.copy_weights.Statement.{statement}
 use Rattle.decode.proofs.pairs.copy_weights.Tie as tie
 
 abbrev Inv-loop : tie.InvT-loop
-Inv-loop s first code₀ from to at₀ j₀ mark₀ code at j mark = WeightsLeft s code₀ from to first code j at mark
+Inv-loop s first code₀ from to before at₀ j₀ mark₀ code at j mark = WeightsLeft s code₀ from to first before code j at mark
 
 abbrev μ-loop : tie.MeasureT-loop
-μ-loop s first code₀ from to at₀ j₀ mark₀ code at j mark = to - j
+μ-loop s first code₀ from to before at₀ j₀ mark₀ code at j mark = to - j
+
+carried-requires : tie.Need-carried-requires Inv-loop μ-loop
+carried-requires c κs = search needs
 
 loop-holds : tie.Need-loop-holds Inv-loop μ-loop
-loop-holds c = weights-begin _ _ _ _ _ (c .before .before .pre .0)
+loop-holds c = weights-begin _ _ _ _ _ _ (c .before .before .before .pre .0) (c .carried .ensures)
 
 take-number-requires : tie.Need-take-number-requires Inv-loop μ-loop
 take-number-requires c κs = search needs
@@ -36,7 +39,7 @@ set-word-requires c κs =
     let taken = c .before in
     let l = taken .before .before .loop in (
       omega (arith, l .inv .long),
-      number-fits (now (taken .before .before .before .before .before .args .s)) (l .at) (taken .take-number .ensures),
+      number-fits (now (taken .before .before .before .before .before .before .args .s)) (l .at) (taken .take-number .ensures),
     )
 
 sub-mixed : tie.Need-sub-mixed Inv-loop μ-loop
@@ -46,7 +49,7 @@ mixed-requires : tie.Need-mixed-requires Inv-loop μ-loop
 mixed-requires c κs =
     let taken = c .before .before .before .before in
     let l = taken .before .before .loop in
-    number-fits (now (taken .before .before .before .before .before .args .s)) (l .at) (taken .take-number .ensures)
+    number-fits (now (taken .before .before .before .before .before .before .args .s)) (l .at) (taken .take-number .ensures)
 
 add-j : tie.Need-add-j Inv-loop μ-loop
 unfolding pairWidth
@@ -61,14 +64,14 @@ loop-again c =
     let set = c .before .before .before in
     let taken = set .before .before in
     let test = taken .before in
-    weights-turn _ _ _ _ _ _ _ _ _ (test .before .loop .inv) (test .loop-test .taken) (taken .take-number .ensures) (set .set-word .ensures)
+    weights-turn _ _ _ _ _ _ _ _ _ _ (test .before .loop .inv) (test .loop-test .taken) (taken .take-number .ensures) (set .set-word .ensures)
     (c .mixed .ensures)
 
 same-length : tie.Need-same-length Inv-loop μ-loop
 same-length c = c .before .loop .inv .long
 
 returns : tie.Need-returns Inv-loop μ-loop
-returns c = weights-done _ _ _ _ _ _ _ _ _ (c .before .loop .inv) (c .loop-test .left)
+returns c = weights-done _ _ _ _ _ _ _ _ _ _ (c .before .loop .inv) (c .loop-test .left)
 
 pub copy-weights-spec : {M : Type 1} → statement M
 copy-weights-spec =
@@ -76,6 +79,7 @@ copy-weights-spec =
     (tie.spec
     Inv-loop
     μ-loop
+    carried-requires
     loop-holds
     take-number-requires
     mul-set-word

@@ -1,8 +1,6 @@
 -- `write_body` meets its contract. Its lists are written one after the other, and then its weights over them.
-use mathlib.Core.Path.{_∙_, ap}
 use borrow.Author.Needs.{needs}
 use denote.Ref.{now}
-use Rattle.repeats.specs.inner.Marks.{blended}
 use Rattle.decode.proofs.rows.Body.{first-fits, second-fits, above-asks, below-asks, plain-put, weighed-put}
 use Rattle.decode.proofs.rows.write_body.Statement.{statement}
 use Rattle.decode.proofs.rows.write_body.Tie as tie
@@ -11,14 +9,14 @@ copy-list-requires : tie.Need-copy-list-requires
 copy-list-requires c κs =
     let start = c .before .before .before in
     let a = start .args in
-    first-fits (now (a .s)) (a .weighs) (a .at) (now (a .code)) (a .j) (start .pre)
+    first-fits (now (a .s)) (a .weighs) (a .at) (now (a .code)) (a .j) (a .before) (start .pre)
 
 copy-list-requires-2 : tie.Need-copy-list-requires-2
 copy-list-requires-2 c κs =
     let first = c .before .before .before in
     let start = first .before .before .before .before in
     let a = start .args in
-    second-fits (now (a .s)) (a .weighs) (a .at) (now (a .code)) (a .j) (start .pre) (first .copy-list .result) (first .copy-list .ensures)
+    second-fits (now (a .s)) (a .weighs) (a .at) (now (a .code)) (a .j) (a .before) (start .pre) (first .copy-list .result) (first .copy-list .ensures)
 
 copy-weights-requires : tie.Need-copy-weights-requires
 copy-weights-requires c κs =
@@ -26,7 +24,7 @@ copy-weights-requires c κs =
     let first = second .before .before .before .before in
     let start = first .before .before .before .before in
     let a = start .args in
-    above-asks (now (a .s)) (a .weighs) (a .at) (now (a .code)) (a .j) (start .pre)
+    above-asks (now (a .s)) (a .weighs) (a .at) (now (a .code)) (a .j) (a .before) (start .pre)
     (first .copy-list .result)
     (first .copy-list .ensures)
     (second .copy-list2 .result)
@@ -39,7 +37,7 @@ copy-weights-requires-2 c κs =
     let first = second .before .before .before .before in
     let start = first .before .before .before .before in
     let a = start .args in
-    below-asks (now (a .s)) (a .weighs) (a .at) (now (a .code)) (a .j) (start .pre)
+    below-asks (now (a .s)) (a .weighs) (a .at) (now (a .code)) (a .j) (a .before) (start .pre)
     (first .copy-list .result)
     (first .copy-list .ensures)
     (second .copy-list2 .result)
@@ -47,28 +45,19 @@ copy-weights-requires-2 c κs =
     (above .copy-weights .result)
     (above .copy-weights .ensures)
 
-blended-requires : tie.Need-blended-requires
-blended-requires c κs = search needs
-
-blended-requires-2 : tie.Need-blended-requires-2
-blended-requires-2 c κs = search needs
-
-blended-requires-3 : tie.Need-blended-requires-3
-blended-requires-3 c κs = search needs
-
 same-length : tie.Need-same-length
 same-length c = search needs
 
 returns : tie.Need-returns
 returns c =
-    let below = c .before .before .before .before .before in
+    let below = c .before .before in
     let above = below .before .before .before .before in
     let test = above .before .before in
     let second = test .before .before .before in
     let first = second .before .before .before .before in
     let start = first .before .before .before .before in
     let a = start .args in
-    weighed-put (now (a .s)) (a .weighs) (a .at) (now (a .code)) (a .j) (start .pre)
+    weighed-put (now (a .s)) (a .weighs) (a .at) (now (a .code)) (a .j) (a .before) (start .pre)
     (first .copy-list .result)
     (first .copy-list .ensures)
     (second .copy-list2 .result)
@@ -78,28 +67,22 @@ returns c =
     (test .if1 .taken)
     (below .copy-weights2 .result)
     (below .copy-weights2 .ensures)
-    (c .blended3 .ensures
-    ∙ ap (blended _) (c .before .blended2 .ensures ∙ ap (blended _) (c .before .before .blended .ensures)))
-
-blended-requires-4 : tie.Need-blended-requires-4
-blended-requires-4 c κs = search needs
 
 same-length-2 : tie.Need-same-length-2
 same-length-2 c = search needs
 
 returns-2 : tie.Need-returns-2
 returns-2 c =
-    let second = c .before .before .before .before in
+    let second = c .before .before .before in
     let first = second .before .before .before .before in
     let start = first .before .before .before .before in
     let a = start .args in
-    plain-put (now (a .s)) (a .weighs) (a .at) (now (a .code)) (a .j) (start .pre)
+    plain-put (now (a .s)) (a .weighs) (a .at) (now (a .code)) (a .j) (a .before) (start .pre)
     (first .copy-list .result)
     (first .copy-list .ensures)
     (second .copy-list2 .result)
     (second .copy-list2 .ensures)
-    (c .before .if1 .left)
-    (c .blended4 .ensures)
+    (c .if1 .left)
 
 pub write-body-spec : {M : Type 1} → statement M
 write-body-spec =
@@ -109,11 +92,7 @@ write-body-spec =
     copy-list-requires-2
     copy-weights-requires
     copy-weights-requires-2
-    blended-requires
-    blended-requires-2
-    blended-requires-3
     same-length
     returns
-    blended-requires-4
     same-length-2
     returns-2)

@@ -5,7 +5,7 @@ use borrow.Author.Needs.{needs}
 use denote.Ref.{now}
 use Rattle.rules.specs.Limits.{numberMost}
 use Rattle.rules.specs.Rule.{ones}
-use Rattle.repeats.specs.inner.Marks.{listMark, mixedAll}
+use Rattle.repeats.specs.inner.Marks.{markCount, carried, mixedAll, atomsMark}
 use Rattle.decode.proofs.Taken.{number-fits}
 use Rattle.decode.proofs.pairs.Copy.{asks-as, copied-as, list-as}
 use Rattle.decode.proofs.rows.Rule.{list-heads, one-head, list-past, one-past}
@@ -56,7 +56,7 @@ same-length-2 : tie.Need-same-length-2
 same-length-2 c = search needs
 
 returns-2 : tie.Need-returns-2
-unfolding mixedAll
+unfolding markCount carried mixedAll
 returns-2 c =
     let written = c .before .before .before in
     let taken = written .before .before in
@@ -66,7 +66,7 @@ returns-2 c =
     record {
       pairs = copied-as (ap ones head) (written .write-pair .ensures);
       next = one-past (now (a .s)) (a .kind) (a .at) (test .if1 .left) (taken .take-number .ensures);
-      mark = c .mixed .ensures ∙ sym (ap listMark head);
+      mark = c .mixed .ensures ∙ sym (ap (atomsMark 0) head);
     }
 
 pub write-heads-spec : {M : Type 1} → statement M

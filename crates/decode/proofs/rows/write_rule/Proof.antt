@@ -31,15 +31,12 @@ write-rest-requires c κs =
     _
     (bound .take-bound .ensures)
 
-blended-requires : tie.Need-blended-requires
-blended-requires c κs = search needs
-
 same-length : tie.Need-same-length
 same-length c = search needs
 
 returns : tie.Need-returns
 returns c =
-    let rest = c .before .before .before in
+    let rest = c .before .before in
     let bound = rest .before .before in
     let heads = bound .before .before .before in
     let kind = heads .before .before in
@@ -52,8 +49,7 @@ returns c =
     (bound .take-bound .ensures)
     (rest .write-rest .result)
     (rest .write-rest .ensures)
-    (c .blended .ensures)
 
 pub write-rule-spec : {M : Type 1} → statement M
 write-rule-spec =
-    tie.close (tie.spec take-number-requires write-heads-requires take-bound-requires write-rest-requires blended-requires same-length returns)
+    tie.close (tie.spec take-number-requires write-heads-requires take-bound-requires write-rest-requires same-length returns)

@@ -1,35 +1,42 @@
--- `repeats::marks::mixed`: it is what the definition says, and it does not wrap.
-use mathlib.Core.Path.{refl}
+-- `repeats::marks::mixed`: it is what the definition says, and what is added does not wrap.
 use native.Mathlib.Omega.{arith}
+use borrow.Author.Needs.{needs}
 use Rattle.rules.specs.Limits.{numberMost}
 use Rattle.repeats.specs.inner.Marks.{markCount, mixed}
 use Rattle.repeats.proofs.marks.Laws.{placed-most}
 use Rattle.repeats.proofs.marks.mixed.Statement.{statement}
 use Rattle.repeats.proofs.marks.mixed.Tie as tie
 
-add-result : tie.Need-add-result
+add-wrapping-add-usize : tie.Need-add-wrapping-add-usize
 unfolding numberMost
-add-result c = omega arith
+add-wrapping-add-usize c = omega arith
 
-mul-result : tie.Need-mul-result
+mul-wrapping-add-usize : tie.Need-mul-wrapping-add-usize
 unfolding numberMost
-mul-result c = omega arith
+mul-wrapping-add-usize c = omega arith
 
-add-result-2 : tie.Need-add-result-2
+add-wrapping-add-usize-2 : tie.Need-add-wrapping-add-usize-2
 unfolding numberMost
-add-result-2 c = omega arith
+add-wrapping-add-usize-2 c = omega arith
 
-mul-result-2 : tie.Need-mul-result-2
+mul-wrapping-add-usize-2 : tie.Need-mul-wrapping-add-usize-2
 unfolding markCount numberMost
-mul-result-2 c = omega (arith, placed-most (c .args .place) (c .args .x) (c .pre))
+mul-wrapping-add-usize-2 c = omega (arith, placed-most (c .args .place) (c .args .x) (c .pre))
 
-add-result-3 : tie.Need-add-result-3
-unfolding markCount numberMost
-add-result-3 c = omega (arith, placed-most (c .args .place) (c .args .x) (c .pre))
+wrapping-add-usize-requires : tie.Need-wrapping-add-usize-requires
+wrapping-add-usize-requires c κs = search needs
 
 returns : tie.Need-returns
 unfolding markCount mixed
-returns c = refl
+returns c = c .wrapping-add-usize .ensures
 
 pub mixed-spec : {M : Type 1} → statement M
-mixed-spec = tie.close (tie.spec add-result mul-result add-result-2 mul-result-2 add-result-3 returns)
+mixed-spec =
+    tie.close
+    (tie.spec
+    add-wrapping-add-usize
+    mul-wrapping-add-usize
+    add-wrapping-add-usize-2
+    mul-wrapping-add-usize-2
+    wrapping-add-usize-requires
+    returns)

@@ -3,7 +3,7 @@ use Prim.Native.Nat.{_-_}
 use native.Mathlib.Omega.{arith}
 use borrow.Author.Needs.{needs}
 use denote.Ref.{now}
-use Rattle.repeats.proofs.same.Laws.{is-so, not-so}
+use Rattle.rules.proofs.Decides.{is-so, not-so}
 use Rattle.repeats.proofs.slots.Laws.{Finding, find-begins, find-done, row-found, find-goes-on}
 use Rattle.repeats.proofs.slots.find.Statement.{statement}
 use Rattle.repeats.proofs.slots.find.Tie as tie
