@@ -5,12 +5,12 @@ use mathlib.Core.Bool.{Bool, true, false}
 use mathlib.Core.List.{List, List·Memᴰ}
 use native.Mathlib.Omega.{arith}
 use lib.Dec.{T}
-use borrow.Author.Tests.{eq-eqb}
-use Rattle.rules.specs.Sum.{counted}
 use Rattle.rules.specs.Rule.{Rule, Within}
 use Rattle.rules.specs.Map.{Map, side, is, want, reach, _⊑_}
 use Rattle.rules.specs.Forcing.{Closed, supports, Only}
+use Rattle.rules.specs.inner.Decides.{Decides}
 use Rattle.rules.proofs.Sum.{tally-mono, count-some}
+use Rattle.rules.proofs.Decides.{is-so, not-so}
 use Rattle.rules.proofs.Maps.{reach-falls, decided-within}
 use Rattle.rules.proofs.Forced.{supports-head, supports-reach, to-supports, one-only, forced-second}
 use Rattle.table.specs.inner.Words.{pairAtom}
@@ -21,45 +21,61 @@ use Rattle.weigh.specs.declared.Outcome.{Outcome}
 use Rattle.weigh.specs.declared.Outcome.the-variants.{Same}
 use Rattle.weigh.proofs.Bytes.{proper-map}
 use Rattle.weigh.proofs.Steps.{kept-refl, step-same, quieter}
-use Rattle.forcing.specs.inner.Support.{supporters, Counts, Backed, Lone, NotLone, TellsLone, TellsAt, BackAsks, Backs}
+use Rattle.forcing.specs.inner.Support.{supporters, Counts, Scarce, ScarceHead, Backed, BackAsks, Backs}
 use Rattle.forcing.proofs.HeadScans.{Sofar, scan-more, scan-end}
+use Rattle.forcing.proofs.Counting.{one-told, told-one-in}
 
--- whether a head is in and has one rule
-module _ (n : ℕ) (M : Map) (counts : List ℕ) (a a′ : ℕ) (e : a ≡ a′) where
-  pub not-held : (x : ℕ) → x ≡ M a → (x ≡ 1 → ⊥) → TellsAt n M counts a′ false
-  not-held x ex f = record { tells = λ h k. f (ex ∙ ap M e ∙ h) }
+-- whether an atom is in and its count is such
+module _ (n : ℕ) (M : Map) (counts : List ℕ) (least a a′ : ℕ) (e : a ≡ a′) where
+  pub not-held : (x : ℕ) → x ≡ M a → (x ≡ 1 → ⊥) → Decides false (Scarce n M counts least a′)
+  not-held x ex f = record { decides = λ s. f (ex ∙ ap M e ∙ s .holds) }
 
-  pub not-alone : (k : ℕ) → k ≡ side n counts a → (k ≡ 1 → ⊥) → TellsAt n M counts a′ false
-  not-alone k ek f = record { tells = λ h g. f (ek ∙ ap (side n counts) e ∙ g) }
+  module _ (k : ℕ) (ek : k ≡ side n counts a) where
+    its-count : k ≡ side n counts a′
+    its-count = ek ∙ ap (side n counts) e
 
-  pub held-alone : (x k : ℕ) → x ≡ M a → x ≡ 1 → k ≡ side n counts a → k ≡ 1 → TellsAt n M counts a′ true
-  held-alone x k ex hx ek hk =
-      record { tells = (ap M (sym e) ∙ sym ex ∙ hx, ap (side n counts) (sym e) ∙ sym ek ∙ hk) }
+    pub too-few : k < least → Decides false (Scarce n M counts least a′)
+    too-few h = record { decides = λ s. omega (arith, its-count, s .low) }
 
-module _ (c : List ℕ) (n i : ℕ) (M : Map) (counts : List ℕ) where
-  pub lone-here :
-      (j : ℕ) (b : Bool) → headsAt c i ≤ j → j < positivesAt c i → b ≡ true → TellsAt n M counts (pairAtom c j) b → TellsLone c n i M
-      counts true
-  lone-here j b l h e t =
-      let u : TellsAt n M counts (pairAtom c j) true = subst (TellsAt n M counts (pairAtom c j)) e t in
+    pub too-many : 1 < k → Decides false (Scarce n M counts least a′)
+    too-many h = record { decides = λ s. omega (arith, its-count, s .few) }
+
+    pub held-scarce : (x : ℕ) → x ≡ M a → x ≡ 1 → least ≤ k → k ≤ 1 → Decides true (Scarce n M counts least a′)
+    held-scarce x ex h low few =
+        record {
+          decides =
+              record {
+                holds = ap M (sym e) ∙ sym ex ∙ h;
+                low = omega (arith, its-count);
+                few = omega (arith, its-count);
+              };
+        }
+
+module _ (c : List ℕ) (n i : ℕ) (M : Map) (counts : List ℕ) (least : ℕ) where
+  -- an atom of which it is not so
+  abbrev pub Ample : ℕ → Type 0
+  Ample a = Scarce n M counts least a → ⊥
+
+  pub scarce-here :
+      (j : ℕ) (b : Bool) → headsAt c i ≤ j → j < positivesAt c i → b ≡ true → Decides b (Scarce n M counts least (pairAtom c j))
+      → Decides true (ScarceHead c n i M counts least)
+  scarce-here j b l h e t =
       record {
-        tells =
+        decides =
             record {
               atom = pairAtom c j;
               head = atoms-has c (headsAt c i) (positivesAt c i) j (record { low = l; high = h });
-              holds = u .tells .0;
-              alone = u .tells .1;
+              scarce = is-so e t;
             };
       }
 
-  pub lone-more :
-      (j : ℕ) (b : Bool) → headsAt c i ≤ j → b ≡ false → TellsAt n M counts (pairAtom c j) b → Sofar c i (NotLone n M counts) j
-      → (headsAt c i ≤ j + 1) × Sofar c i (NotLone n M counts) (j + 1)
-  lone-more j b l e t none =
-      scan-more c i (NotLone n M counts) j l (subst (TellsAt n M counts (pairAtom c j)) e t .tells) none
+  pub scarce-more :
+      (j : ℕ) (b : Bool) → headsAt c i ≤ j → b ≡ false → Decides b (Scarce n M counts least (pairAtom c j)) → Sofar c i Ample j
+      → (headsAt c i ≤ j + 1) × Sofar c i Ample (j + 1)
+  scarce-more j b l e t none = scan-more c i Ample j l (not-so e t) none
 
-  pub lone-nowhere : (j : ℕ) → positivesAt c i ≤ j → Sofar c i (NotLone n M counts) j → TellsLone c n i M counts false
-  lone-nowhere j b none = record { tells = scan-end c i (NotLone n M counts) j b none }
+  pub scarce-nowhere : (j : ℕ) → positivesAt c i ≤ j → Sofar c i Ample j → Decides false (ScarceHead c n i M counts least)
+  scarce-nowhere j b none = record { decides = λ s. scan-end c i Ample j b none (s .atom) (s .head) (s .scarce) }
 
 -- a literal made true is on the side that its sign wants
 granted : (s : Bool) → aim true s ≡ want s
@@ -84,23 +100,18 @@ module _ (c : List ℕ) (n i : ℕ) (counts m : List ℕ) (asks : BackAsks c n i
   within : (a : ℕ) → side n m a ≡ 1 → Within n a
   within a e = decided-within (proper-map n m (asks .proper)) true a e
 
-  -- a count of 1 is that of an atom that was in
-  counted-one : (P : List Rule) (M₀ : Map) → Counts P n M₀ counts → (a : ℕ) → Within n a → side n counts a ≡ 1 → supporters a M₀ P ≡ 1
-  counted-one P M₀ k a w o = one (is 1 M₀ a) (sym (k a w) ∙ o)
-    where
-      one : (b : Bool) → counted b (supporters a M₀ P) ≡ 1 → supporters a M₀ P ≡ 1
-      one true e = e
-      one false e = absurd (omega (arith, e))
-
-  -- an atom that is in has its count
-  counted-in : (P : List Rule) → Counts P n (side n m) counts → (a : ℕ) → side n m a ≡ 1 → side n counts a ≡ supporters a (side n m) P
-  counted-in P k a h =
-      k a (within a h) ∙ ap (λ (b : Bool). counted b (supporters a (side n m) P)) (eq-eqb (side n m a) 1 h)
-
-  pub back-none : (b : Bool) → b ≡ false → TellsLone c n i (side n m) counts b → Backs c n i counts m m Same
+  pub back-none : (b : Bool) → b ≡ false → Decides b (ScarceHead c n i (side n m) counts 1) → Backs c n i counts m m Same
   back-none b e t =
-      let u : TellsLone c n i (side n m) counts false = subst (TellsLone c n i (side n m) counts) e t in
-      left (λ P k a h o g. absurd (u .tells a (supports-head a (side n m) (rowRule c i) g) h (counted-in P k a h ∙ o)))
+      left
+      (λ P k a h o g.
+      let one = one-told P n (side n m) counts k a (within a h) h o in
+      absurd
+      (not-so e t
+      (record {
+        atom = a;
+        head = supports-head a (side n m) (rowRule c i) g;
+        scarce = record { holds = h; low = omega (arith, one); few = omega (arith, one) };
+      })))
 
   module _ (need most : ℕ) (en : need ≡ needAt c i) (er : most ≡ reach (rowRule c i) (side n m)) where
     pub back-short : most < need → Backs c n i counts m m Same
@@ -108,7 +119,7 @@ module _ (c : List ℕ) (n i : ℕ) (counts m : List ℕ) (asks : BackAsks c n i
         left (λ P k a e o g. absurd (omega (arith, supports-reach a (side n m) (rowRule c i) g, en, er)))
 
     pub back-press :
-        (b : Bool) → b ≡ true → TellsLone c n i (side n m) counts b → need ≤ most → (m′ : List ℕ) (r : Outcome)
+        (b : Bool) → b ≡ true → Decides b (ScarceHead c n i (side n m) counts 1) → need ≤ most → (m′ : List ℕ) (r : Outcome)
         → PressesBody c n i (most - need + 1) true m m′ r → Backs c n i counts m m′ r
     back-press b e t h m′ r p =
         record {
@@ -121,15 +132,18 @@ module _ (c : List ℕ) (n i : ℕ) (counts m : List ℕ) (asks : BackAsks c n i
               (p .step P (due P b M₀ up k));
         }
       where
-        lone : Lone c n i (side n m) counts
-        lone = subst (TellsLone c n i (side n m) counts) e t .tells
+        lone : ScarceHead c n i (side n m) counts 1
+        lone = is-so e t
+
+        holds : side n m (lone .atom) ≡ 1
+        holds = lone .scarce .holds
 
         due :
             (P : List Rule) → List·Memᴰ (rowRule c i) P → (M₀ : Map) → M₀ ⊑ side n m → Counts P n M₀ counts
             → Due P n (rowRule c i) (most - need + 1) true (side n m)
         due P b M₀ up k s l w g z =
             record {
-              forced = λ X x f. forced-second f x (lone .atom) (lone .holds) (rowRule c i) b supp only s l w z (omega arith) ∙ sym
+              forced = λ X x f. forced-second f x (lone .atom) holds (rowRule c i) b supp only s l w z (omega arith) ∙ sym
                   (granted s);
             }
           where
@@ -140,7 +154,8 @@ module _ (c : List ℕ) (n i : ℕ) (counts m : List ℕ) (asks : BackAsks c n i
             one =
                 omega (
                   arith,
-                  counted-one P M₀ k (lone .atom) (within (lone .atom) (lone .holds)) (lone .alone),
+                  told-one-in P n M₀ counts k (lone .atom) (within (lone .atom) holds)
+                      (omega (arith, lone .scarce .low, lone .scarce .few)),
                   fewer-supporters P M₀ (side n m) (lone .atom) up,
                   count-some (supports (lone .atom) (side n m)) P (rowRule c i) b supp,
                 )

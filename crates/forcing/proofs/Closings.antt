@@ -31,7 +31,7 @@ use Rattle.forcing.specs.inner.Ground.{ListsFounded, Drops, Unless}
 use Rattle.forcing.specs.inner.Rounds.{FirstWith, LowestAt, Forcing, BackedAll, FoundedAll, ClosesMap}
 use Rattle.forcing.specs.declared.Closing.the-variants.{NoneHolds, ClosedWith}
 use Rattle.forcing.proofs.Founding.{unfounded-out}
-use Rattle.forcing.proofs.Counting.{only-once}
+use Rattle.forcing.proofs.Counting.{one-told, only-once}
 
 -- the zero bytes before index i are counted
 pub record Summed (n : ℕ) (m : List ℕ) (sum i : ℕ) : Type 0 where
@@ -84,6 +84,16 @@ module _ (c : List ℕ) (n count : ℕ) where
   pub backed-idle : (m : List ℕ) → MapBytes n m → (i : ℕ) → FirstWith 1 n m i → i ≡ n → Forcing c n count (BackedAll c count) m m Same
   backed-idle m p i none e =
       step-same (Closed (tableRules c count) n) n (BackedAll c count) m p (λ k _ h a t _ _ s l b z _. no-byte none e (decided-within (proper-map n m p) true a t) t)
+
+  -- rule 2 speaks of atoms that one rule can give, and there is none
+  pub backed-more :
+      (m counts : List ℕ) → MapBytes n m → Counts (tableRules c count) n (side n m) counts → (i : ℕ) → FirstWith 1 n counts i → i ≡ n
+      → Forcing c n count (BackedAll c count) m m Same
+  backed-more m counts p tells i none e =
+      step-same (Closed (tableRules c count) n) n (BackedAll c count) m p
+      (λ k _ h a t o _ s l b z _.
+      let w = decided-within (proper-map n m p) true a t in
+      no-byte none e w (one-told (tableRules c count) n (side n m) counts tells a w t o))
 
   pub dropped :
       (m m′ u : List ℕ) (r : Outcome) → ListsFounded c n count m u → Drops n u m (n + 1) m′ r

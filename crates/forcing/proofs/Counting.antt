@@ -1,5 +1,5 @@
 -- Each head of a rule is one atom, so a rule that can still give its heads adds one to the count of each that is in, and none
--- twice. Each rule stands in one row, so where a count is not 1 there are two rules, or none.
+-- twice; a head that has two needs no more. Each rule stands in one row, so where a count is not 1 there are two rules, or none.
 use Prim.Native.Nat.{ℕ, zero, suc, _+_, _-_, _≤_, _<_}
 use mathlib.Core.Path.{_≡_, refl, sym, _∙_, ap, subst}
 use mathlib.Core.Bool.{Bool, true, false, not, _&&_, _||_, and-true, and-false}
@@ -9,12 +9,13 @@ use native.Mathlib.Omega.{arith}
 use lib.Dec.{T, T-not, eqb}
 use lib.ListN.{length, set}
 use borrow.Author.Tests.{eq-eqb, ne-eqb, le-leb}
-use Rattle.rules.specs.Limits.{rulesMost}
 use Rattle.rules.specs.Sum.{counted, tally, has}
 use Rattle.rules.specs.Rule.{Rule, Within}
 use Rattle.rules.specs.Map.{Map, side, is, reach}
 use Rattle.rules.specs.Forcing.{supports, Only}
-use Rattle.rules.proofs.Tests.{eq-T, T-true, T-false, T-same, and-T, T-and-left, T-and-right, decided, T-eq, T-ne}
+use Rattle.rules.specs.inner.Decides.{Decides}
+use Rattle.rules.proofs.Tests.{eq-T, T-true, T-false, T-same, and-T, T-and-left, T-and-right, decided, below?, T-eq, T-ne}
+use Rattle.rules.proofs.Decides.{not-so}
 use Rattle.rules.proofs.Sum.{counted-most, count-some}
 use Rattle.rules.proofs.Forced.{supports-head, supports-reach}
 use Rattle.rules.proofs.Bytes.{written-same, written-other}
@@ -23,15 +24,16 @@ use Rattle.table.specs.inner.Rows.{headsAt, positivesAt, needAt, rowRule, rowRu
 use Rattle.table.proofs.Words.{AtomFound, atoms-listed, has-done, has-next}
 use Rattle.table.proofs.Rows.{Standing, rule-stands, rule-mem, heads-apart, rules-done, rows-next}
 use Rattle.weigh.proofs.Bytes.{equal?}
-use Rattle.forcing.specs.inner.Support.{supporters, Counts, Small, Adds, Stirs}
+use Rattle.forcing.specs.inner.Support.{supporters, upToTwo, Counts, Adds, ScarceHead}
+use Rattle.forcing.proofs.Told.{told-more, told-one, told-twice, told-add}
 
 -- the rules before row i are counted
 pub record Counting (c : List ℕ) (n count : ℕ) (M : Map) (i : ℕ) (counts : List ℕ) : Type 0 where
   pub room : n ≤ length counts
   pub sofar :
       (a : ℕ) → Within n a
-      → side n counts a + counted (is 1 M a) (supporters a M (rowRules c (count - i) i))
-      ≡ counted (is 1 M a) (supporters a M (tableRules c count))
+      → upToTwo (side n counts a + counted (is 1 M a) (supporters a M (rowRules c (count - i) i)))
+      ≡ upToTwo (counted (is 1 M a) (supporters a M (tableRules c count)))
 
 -- the heads before pair j are counted
 pub record Heading (c : List ℕ) (n i : ℕ) (M : Map) (counts₀ : List ℕ) (j : ℕ) (counts : List ℕ) : Type 0 where
@@ -39,30 +41,44 @@ pub record Heading (c : List ℕ) (n i : ℕ) (M : Map) (counts₀ : List ℕ) (
   pub low : headsAt c i ≤ j
   pub sofar :
       (a : ℕ) → Within n a
-      → side n counts a + counted (is 1 M a && has a (segAtoms c j (positivesAt c i))) 1
-      ≡ side n counts₀ a + counted (is 1 M a && has a (segAtoms c (headsAt c i) (positivesAt c i))) 1
+      → upToTwo (side n counts a + counted (is 1 M a && has a (segAtoms c j (positivesAt c i))) 1)
+      ≡ upToTwo (side n counts₀ a + counted (is 1 M a && has a (segAtoms c (headsAt c i) (positivesAt c i))) 1)
+
+-- where a test does not pass there is no more
+unchanged : (k : ℕ) (b : Bool) → (T b → ⊥) → upToTwo k ≡ upToTwo (k + counted b 1)
+unchanged k b f =
+    let z : counted b 1 ≡ 0 = ap (λ (x : Bool). counted x 1) (T-false b f) in
+    ap upToTwo (omega arith)
 
 -- one more at one atom
 module _ (n : ℕ) (counts : List ℕ) (a : ℕ) (w : Within n a) (room : n ≤ length counts) where
-  bumped : (x : ℕ) → side n (set counts (a - 1) (side n counts a + 1)) x ≡ side n counts x + counted (eqb x a) 1
+  more : List ℕ
+  more = set counts (a - 1) (upToTwo (side n counts a + 1))
+
+  bumped : (x : ℕ) → upToTwo (side n more x) ≡ upToTwo (side n counts x + counted (eqb x a) 1)
+  unfolding more
   bumped x = ⊎-elim here there (equal? x a)
     where
-      here : x ≡ a → side n (set counts (a - 1) (side n counts a + 1)) x ≡ side n counts x + counted (eqb x a) 1
+      here : x ≡ a → upToTwo (side n more x) ≡ upToTwo (side n counts x + counted (eqb x a) 1)
       here e =
-          ap (side n (set counts (a - 1) (side n counts a + 1))) e ∙ written-same n counts a w room (side n counts a + 1)
-          ∙ (let f : side n counts x ≡ side n counts a = ap (side n counts) e in
+          ap upToTwo (ap (side n more) e ∙ written-same n counts a w room (upToTwo (side n counts a + 1)))
+          ∙ told-twice (side n counts a + 1)
+          ∙ ap upToTwo
+          (let f : side n counts x ≡ side n counts a = ap (side n counts) e in
           let g : counted (eqb x a) 1 ≡ 1 = ap (λ (b : Bool). counted b 1) (eq-eqb x a e) in
           omega arith)
 
-      there : (x ≡ a → ⊥) → side n (set counts (a - 1) (side n counts a + 1)) x ≡ side n counts x + counted (eqb x a) 1
+      there : (x ≡ a → ⊥) → upToTwo (side n more x) ≡ upToTwo (side n counts x + counted (eqb x a) 1)
       there e =
-          written-other n counts a w room (side n counts a + 1) x e
-          ∙ (let g : counted (eqb x a) 1 ≡ 0 = ap (λ (b : Bool). counted b 1) (ne-eqb x a e) in omega arith)
+          ap upToTwo
+          (written-other n counts a w room (upToTwo (side n counts a + 1)) x e
+          ∙ (let g : counted (eqb x a) 1 ≡ 0 = ap (λ (b : Bool). counted b 1) (ne-eqb x a e) in omega arith))
 
   -- an atom that is in has one more, and any other has no more
   module _ (M : Map) where
-    pub pair-in : M a ≡ 1 → Adds n (λ x. is 1 M x && eqb x a) counts (set counts (a - 1) (side n counts a + 1))
-    pair-in e = record { adds = λ x _. bumped x ∙ ap (λ (b : Bool). side n counts x + counted b 1) (same x) }
+    pub pair-in : M a ≡ 1 → Adds n (λ x. is 1 M x && eqb x a) counts (set counts (a - 1) (upToTwo (side n counts a + 1)))
+    unfolding more
+    pair-in e = record { adds = λ x _. bumped x ∙ ap (λ (b : Bool). upToTwo (side n counts x + counted b 1)) (same x) }
       where
         same : (x : ℕ) → eqb x a ≡ (is 1 M x && eqb x a)
         same x =
@@ -75,12 +91,8 @@ module _ (n : ℕ) (counts : List ℕ) (a : ℕ) (w : Within n a) (room : n ≤ 
         record {
           adds =
               λ x _.
-              let z : counted (is 1 M x && eqb x a) 1 ≡ 0 =
-              ap (λ (b : Bool). counted b 1)
-              (T-false (is 1 M x && eqb x a)
-              (λ t. f (ap M (sym (T-eq (T-and-right (is 1 M x) (eqb x a) t))) ∙ T-eq (T-and-left (is 1 M x) (eqb x a) t))))
-              in
-              omega arith;
+              unchanged (side n counts x) (is 1 M x && eqb x a)
+              (λ t. f (ap M (sym (T-eq (T-and-right (is 1 M x) (eqb x a) t))) ∙ T-eq (T-and-left (is 1 M x) (eqb x a) t)));
         }
 
 -- what is counted only under a test
@@ -124,22 +136,7 @@ module _ (c : List ℕ) (n i : ℕ) (row : Row c n i) where
         record {
           long = refl;
           low = omega arith;
-          sofar = λ a w. ap (λ (x : ℕ). side n counts₀ a + counted (is 1 M a && has a (segAtoms c x (positivesAt c i))) 1) e;
-        }
-
-    -- no count is more than one above where it began
-    pub heading-small : Small n 0 counts₀ → (j : ℕ) (counts : List ℕ) → Heading c n i M counts₀ j counts → Small n 1 counts
-    heading-small small j counts h =
-        record {
-          room = omega (arith, h .long, small .room);
-          small =
-              λ a w.
-              omega (
-                arith,
-                h .sofar a w,
-                small .small a w,
-                counted-most (is 1 M a && has a (segAtoms c (headsAt c i) (positivesAt c i))) 1,
-              );
+          sofar = λ a w. ap (λ (x : ℕ). upToTwo (side n counts₀ a + counted (is 1 M a && has a (segAtoms c x (positivesAt c i))) 1)) e;
         }
 
     pub heading-more :
@@ -151,13 +148,15 @@ module _ (c : List ℕ) (n i : ℕ) (row : Row c n i) where
           low = omega (arith, h .low);
           sofar =
               λ a w.
-              omega (
+              told-add (side n counts′ a) (side n counts a + counted (is 1 M a && eqb a (pairAtom c j)) 1)
+              (counted (is 1 M a && has a (segAtoms c (j + 1) (positivesAt c i))) 1) (p .adds a w)
+              ∙ ap upToTwo
+              (omega (
                 arith,
-                h .sofar a w,
-                p .adds a w,
                 under (is 1 M a) (has a (segAtoms c j (positivesAt c i))) (eqb a (pairAtom c j))
                     (has a (segAtoms c (j + 1) (positivesAt c i))) (once a j (h .low) b),
-              );
+              ))
+              ∙ h .sofar a w;
         }
 
     pub heading-end :
@@ -171,35 +170,48 @@ module _ (c : List ℕ) (n i : ℕ) (row : Row c n i) where
               ap (λ (x : Bool). counted (is 1 M a && x) 1) (has-done a c j (positivesAt c i) b)
               ∙ ap (λ (x : Bool). counted x 1) (and-false (is 1 M a))
               in
-              omega (arith, h .sofar a w);
+              ap upToTwo (omega arith) ∙ h .sofar a w;
         }
 
   -- a rule adds one to each head that is in, where it can still give it
   module _ (M : Map) (counts counts′ : List ℕ) where
-    -- what passes no test is not counted
-    idle : ((a : ℕ) → M a ≡ 1 → T (supports a M (rowRule c i)) → ⊥) → Adds n (λ a. is 1 M a && supports a M (rowRule c i)) counts counts
-    idle f =
+    pub rule-still :
+        (b : Bool) → b ≡ false → Decides b (ScarceHead c n i M counts 0)
+        → Adds n (λ a. is 1 M a && supports a M (rowRule c i)) counts counts
+    rule-still b e t =
         record {
           adds =
               λ a w.
-              let z : counted (is 1 M a && supports a M (rowRule c i)) 1 ≡ 0 =
-              ap (λ (b : Bool). counted b 1)
-              (T-false (is 1 M a && supports a M (rowRule c i))
-              (λ t. f a (T-eq (T-and-left (is 1 M a) (supports a M (rowRule c i)) t))
-              (T-and-right (is 1 M a) (supports a M (rowRule c i)) t)))
-              in
-              omega arith;
+              let test = is 1 M a && supports a M (rowRule c i) in
+              ⊎-elim (full a) (λ (no : T (not test)). unchanged (side n counts a) test (T-not test no)) (decided test);
         }
-
-    pub rule-still :
-        (b : Bool) → b ≡ false → Stirs (rowRule c i) M b → Adds n (λ a. is 1 M a && supports a M (rowRule c i)) counts counts
-    rule-still b e t =
-        let u : Stirs (rowRule c i) M false = subst (Stirs (rowRule c i) M) e t in
-        idle (λ a h s. u .tells a (supports-head a M (rowRule c i) s) h)
+      where
+        full :
+            (a : ℕ) → T (is 1 M a && supports a M (rowRule c i))
+            → upToTwo (side n counts a) ≡ upToTwo (side n counts a + counted (is 1 M a && supports a M (rowRule c i)) 1)
+        full a u =
+            let many : 2 ≤ side n counts a =
+            ⊎-elim
+            (λ (few : side n counts a < 2).
+            absurd
+            (not-so e t
+            (record {
+              atom = a;
+              head = supports-head a M (rowRule c i) (T-and-right (is 1 M a) (supports a M (rowRule c i)) u);
+              scarce = record { holds = T-eq (T-and-left (is 1 M a) (supports a M (rowRule c i)) u); low = omega arith; few = omega arith };
+            })))
+            (λ (h : 2 ≤ side n counts a). h) (below? (side n counts a) 2) in
+            told-more (side n counts a) many ∙ sym (told-more _ (omega arith))
 
     module _ (need most : ℕ) (en : need ≡ needAt c i) (er : most ≡ reach (rowRule c i) M) where
       pub rule-short : most < need → Adds n (λ a. is 1 M a && supports a M (rowRule c i)) counts counts
-      rule-short h = idle (λ a _ s. omega (arith, supports-reach a M (rowRule c i) s, en, er))
+      rule-short h =
+          record {
+            adds =
+                λ a w.
+                unchanged (side n counts a) (is 1 M a && supports a M (rowRule c i))
+                (λ u. omega (arith, supports-reach a M (rowRule c i) (T-and-right (is 1 M a) (supports a M (rowRule c i)) u), en, er));
+          }
 
       pub rule-long :
           need ≤ most → Adds n (λ a. is 1 M a && has a (segAtoms c (headsAt c i) (positivesAt c i))) counts counts′
@@ -214,14 +226,8 @@ module _ (c : List ℕ) (n i : ℕ) (row : Row c n i) where
                 (le-leb (needAt c i) (reach (rowRule c i) M) (omega arith))
                 ∙ ap (λ (b : Bool). counted (is 1 M a && b) 1) (and-true (has a (rowRule c i .heads)))
                 in
-                omega (arith, p .adds a w);
+                p .adds a w ∙ ap upToTwo (omega arith);
           }
-
--- at most as many rules give an atom as there are
-few-supporters : (c : List ℕ) (M : Map) (a k i : ℕ) → supporters a M (rowRules c k i) ≤ k
-unfolding rowRules tally
-few-supporters c M a zero i = omega arith
-few-supporters c M a (suc k) i = omega (arith, counted-most (supports a M (rowRule c i)) 1, few-supporters c M a k (suc i))
 
 module _ (c : List ℕ) (n count : ℕ) (M : Map) where
   supporters-next :
@@ -237,7 +243,7 @@ module _ (c : List ℕ) (n count : ℕ) (M : Map) where
 
   pub counting-begin :
       (counts : List ℕ) → n ≤ length counts → ((a : ℕ) → Within n a → side n counts a ≡ 0) → Counting c n count M 0 counts
-  counting-begin counts room zeros = record { room = room; sofar = λ a w. omega (arith, zeros a w, whole a) }
+  counting-begin counts room zeros = record { room = room; sofar = λ a w. ap upToTwo (omega (arith, zeros a w, whole a)) }
     where
       none : count - 0 ≡ count
       none = omega arith
@@ -246,20 +252,6 @@ module _ (c : List ℕ) (n count : ℕ) (M : Map) where
           (a : ℕ)
           → counted (is 1 M a) (supporters a M (rowRules c (count - 0) 0)) ≡ counted (is 1 M a) (supporters a M (tableRules c count))
       whole a = ap (λ (k : ℕ). counted (is 1 M a) (supporters a M (rowRules c k 0))) none
-
-  pub counting-small : (i : ℕ) (counts : List ℕ) → count ≤ rulesMost → Counting c n count M i counts → Small n 0 counts
-  counting-small i counts h p =
-      record {
-        room = p .room;
-        small =
-            λ a w.
-            omega (
-              arith,
-              p .sofar a w,
-              counted-most (is 1 M a) (supporters a M (tableRules c count)),
-              few-supporters c M a count 0,
-            );
-      }
 
   pub counting-more :
       (i : ℕ) (counts counts′ : List ℕ) → i < count → length counts′ ≡ length counts → Counting c n count M i counts
@@ -276,7 +268,10 @@ module _ (c : List ℕ) (n count : ℕ) (M : Map) where
             ap (counted (is 1 M a)) (supporters-next a i h)
             ∙ under-sum (is 1 M a) (supports a M (rowRule c i)) (supporters a M (rowRules c (count - (i + 1)) (i + 1)))
             in
-            omega (arith, p .sofar a w, q .adds a w);
+            told-add (side n counts′ a) (side n counts a + counted (is 1 M a && supports a M (rowRule c i)) 1)
+            (counted (is 1 M a) (supporters a M (rowRules c (count - (i + 1)) (i + 1)))) (q .adds a w)
+            ∙ ap upToTwo (omega arith)
+            ∙ p .sofar a w;
       }
 
   pub counting-end : (i : ℕ) (counts : List ℕ) → count ≤ i → Counting c n count M i counts → Counts (tableRules c count) n M counts
@@ -284,11 +279,27 @@ module _ (c : List ℕ) (n count : ℕ) (M : Map) where
       let z : counted (is 1 M a) (supporters a M (rowRules c (count - i) i)) ≡ 0 =
       ap (counted (is 1 M a)) (supporters-done a i h) ∙ none (is 1 M a)
       in
-      omega (arith, p .sofar a w)
+      ap upToTwo (omega arith) ∙ p .sofar a w
     where
       none : (b : Bool) → counted b 0 ≡ 0
       none true = refl
       none false = refl
+
+-- an atom that is in has a count of 1 where one rule can give it; and where its count is 1 it was in, and one rule could
+module _ (P : List Rule) (n : ℕ) (M : Map) (counts : List ℕ) (tells : Counts P n M counts) (a : ℕ) (w : Within n a) where
+  pub one-told : M a ≡ 1 → supporters a M P ≡ 1 → side n counts a ≡ 1
+  unfolding upToTwo
+  one-told h o =
+      told-one (side n counts a)
+      (tells a w ∙ ap (λ (b : Bool). upToTwo (counted b (supporters a M P))) (eq-eqb (M a) 1 h) ∙ ap upToTwo o)
+
+  pub told-one-in : side n counts a ≡ 1 → supporters a M P ≡ 1
+  unfolding upToTwo
+  told-one-in e = in-one (is 1 M a) (told-one _ (sym (tells a w) ∙ ap upToTwo e))
+    where
+      in-one : (b : Bool) → counted b (supporters a M P) ≡ 1 → supporters a M P ≡ 1
+      in-one true o = o
+      in-one false o = absurd (omega (arith, o))
 
 -- each rule stands in one row, so where all that can give an atom are one rule they are one row
 module _ (c : List ℕ) (a : ℕ) (M : Map) where

@@ -1,6 +1,7 @@
 pub mod Passes
 pub mod HeadScans
 pub mod Settling
+pub mod Told
 pub mod Counting
 pub mod Backing
 pub mod Groundings

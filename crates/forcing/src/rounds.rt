@@ -56,7 +56,7 @@ pub fn lowest(m: &[u8], n: u32) -> u32
     first_with(m, n, 0)
 }
 
-// Forcing rule 2 at every rule: nothing where no atom is in, or every atom is decided.
+// Forcing rule 2 at every rule: nothing where no atom is in, every atom is decided, or no atom has one rule.
 fn back_round(code: &[u32], n: u32, count: u32, m: &mut [u8]) -> Outcome
     requires { ⌜ Laid (now code) n count × MapBytes n (now m) ⌝ }
     ensures { λ r. ⌜ Forcing (now (code .entry)) n count (BackedAll (now (code .entry)) count) (now (m .entry)) (now (m .exit)) r ⌝ }
@@ -67,8 +67,11 @@ fn back_round(code: &[u32], n: u32, count: u32, m: &mut [u8]) -> Outcome
     if lowest(m, n) == n {
         return Outcome::Same;
     }
-    let mut counts = [0u32; Atom::LAST];
+    let mut counts = [0u8; Atom::LAST];
     count_all(code, n, count, m, &mut counts);
+    if first_with(&counts, n, 1) == n {
+        return Outcome::Same;
+    }
     back_all(code, n, count, &counts, m)
 }
 

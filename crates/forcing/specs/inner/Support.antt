@@ -1,13 +1,12 @@
 -- "2. An atom is in and exactly one rule with that head has reach at or above its need: each undecided literal of that body whose
--- weight taken from reach leaves less than the need is made true." A table holds each rule once, so its rows are counted: for all atoms
--- that are in at once, by atom.
-use Prim.Native.Nat.{ℕ, _+_, _≤_, _<_}
+-- weight taken from reach leaves less than the need is made true." A table holds each rule once, so its rows are counted, as far as
+-- two: for all atoms that are in at once, by atom.
+use Prim.Native.Nat.{ℕ, zero, suc, _+_, _≤_, _<_}
 use mathlib.Core.Path.{_≡_}
-use mathlib.Core.Bool.{Bool, true, false}
+use mathlib.Core.Bool.{Bool}
 use mathlib.Core.List.{List, List·Memᴰ}
 use lib.Dec.{T}
 use lib.ListN.{length}
-use Rattle.rules.specs.Limits.{rulesMost}
 use Rattle.rules.specs.Sum.{counted, tally, has}
 use Rattle.rules.specs.Rule.{Rule, Weighted, Within, body}
 use Rattle.rules.specs.Map.{Map, side, is, reach, _⊑_}
@@ -21,65 +20,38 @@ use Rattle.weigh.specs.declared.Outcome.{Outcome}
 abbrev pub supporters : ℕ → Map → List Rule → ℕ
 supporters a M P = tally (supports a M) (λ _. 1) P
 
--- for each atom that is in, how many rules can still give it, and for any other 0; an atom's count stands where its byte stands in
--- a map
+-- a number as far as it tells none, one and more apart
+unfoldable pub upToTwo : ℕ → ℕ
+upToTwo zero = 0
+upToTwo (suc zero) = 1
+upToTwo (suc (suc k)) = 2
+
+-- for each atom that is in, whether no rule, one, or more can still give it, and for any other 0; an atom's count stands where its byte
+-- stands in a map
 abbrev pub Counts : List Rule → ℕ → Map → List ℕ → Type 0
-Counts P n M counts = (a : ℕ) → Within n a → side n counts a ≡ counted (is 1 M a) (supporters a M P)
-
--- there is a count for each atom, which is no more than the most rules and some
-pub record Small (n some : ℕ) (counts : List ℕ) : Type 0 where
-  pub room : n ≤ length counts
-  pub small : (a : ℕ) → Within n a → side n counts a ≤ rulesMost + some
-
-pub record CountAsks (n : ℕ) (m : List ℕ) (some : ℕ) (counts : List ℕ) : Type 0 where
-  pub map : n ≤ length m
-  pub small : Small n some counts
+Counts P n M counts = (a : ℕ) → Within n a → upToTwo (side n counts a) ≡ upToTwo (counted (is 1 M a) (supporters a M P))
 
 -- one more at each atom that passes a test
 pub record Adds (n : ℕ) (test : ℕ → Bool) (counts counts′ : List ℕ) : Type 0 where
-  pub adds : (a : ℕ) → Within n a → side n counts′ a ≡ side n counts a + counted (test a) 1
+  pub adds : (a : ℕ) → Within n a → upToTwo (side n counts′ a) ≡ upToTwo (side n counts a + counted (test a) 1)
 
--- no head of the rule is in
-abbrev pub Still : Rule → Map → Type 0
-Still r M = (a : ℕ) → T (has a (r .heads)) → M a ≡ 1 → ⊥
+-- the atom is in, and its count is one from a least one up to 1
+pub record Scarce (n : ℕ) (M : Map) (counts : List ℕ) (least a : ℕ) : Type 0 where
+  pub holds : M a ≡ 1
+  pub low : least ≤ side n counts a
+  pub few : side n counts a ≤ 1
 
-abbrev pub StillUnless : Rule → Map → Bool → Type 0
-StillUnless r M true = Unit
-StillUnless r M false = Still r M
-
-pub record Stirs (r : Rule) (M : Map) (b : Bool) : Type 0 where
-  pub tells : StillUnless r M b
+-- a head of rule i is so
+pub record ScarceHead (c : List ℕ) (n i : ℕ) (M : Map) (counts : List ℕ) (least : ℕ) : Type 0 where
+  pub atom : ℕ
+  pub head : T (has atom (rowRule c i .heads))
+  pub scarce : Scarce n M counts least atom
 
 -- the forcing rule has nothing to add for this rule
 abbrev pub Backed : List Rule → Rule → Map → Type 0
 Backed P r M =
     (a : ℕ) → M a ≡ 1 → supporters a M P ≡ 1 → T (supports a M r) → (s : Bool) (l : Weighted) → List·Memᴰ l (body r s)
     → M (l .atom) ≡ 0 → reach r M < r .need + l .weight → ⊥
-
--- a head of rule i is in, and its count is 1; or none is so
-pub record Lone (c : List ℕ) (n i : ℕ) (M : Map) (counts : List ℕ) : Type 0 where
-  pub atom : ℕ
-  pub head : T (has atom (rowRule c i .heads))
-  pub holds : M atom ≡ 1
-  pub alone : side n counts atom ≡ 1
-
-abbrev pub NotLone : ℕ → Map → List ℕ → ℕ → Type 0
-NotLone n M counts a = M a ≡ 1 → side n counts a ≡ 1 → ⊥
-
-abbrev pub LoneIf : List ℕ → ℕ → ℕ → Map → List ℕ → Bool → Type 0
-LoneIf c n i M counts true = Lone c n i M counts
-LoneIf c n i M counts false = (a : ℕ) → T (has a (rowRule c i .heads)) → NotLone n M counts a
-
-pub record TellsLone (c : List ℕ) (n i : ℕ) (M : Map) (counts : List ℕ) (b : Bool) : Type 0 where
-  pub tells : LoneIf c n i M counts b
-
--- the same of one atom
-abbrev pub LoneAt : ℕ → Map → List ℕ → ℕ → Bool → Type 0
-LoneAt n M counts a true = (M a ≡ 1) × (side n counts a ≡ 1)
-LoneAt n M counts a false = NotLone n M counts a
-
-pub record TellsAt (n : ℕ) (M : Map) (counts : List ℕ) (a : ℕ) (b : Bool) : Type 0 where
-  pub tells : LoneAt n M counts a b
 
 pub record BackAsks (c : List ℕ) (n i : ℕ) (counts m : List ℕ) : Type 0 where
   pub row : Row c n i

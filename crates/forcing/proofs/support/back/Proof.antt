@@ -9,8 +9,8 @@ use Rattle.forcing.proofs.Backing.{back-none, back-short, back-press}
 use Rattle.forcing.proofs.support.back.Statement.{statement}
 use Rattle.forcing.proofs.support.back.Tie as tie
 
-has-lone-requires : tie.Need-has-lone-requires
-has-lone-requires c κs = search needs
+has-scarce-requires : tie.Need-has-scarce-requires
+has-scarce-requires c κs = search needs
 
 need-at-requires : tie.Need-need-at-requires
 need-at-requires c κs = search needs
@@ -55,7 +55,7 @@ returns-2 c =
     (c .before .before .before .before .before .before .before .need-at .ensures)
     (c .before .before .before .before .before .reach .ensures) _
     (c .before .before .before .before .before .before .before .before .if1 .taken)
-    (c .before .before .before .before .before .before .before .before .before .has-lone .ensures)
+    (c .before .before .before .before .before .before .before .before .before .has-scarce .ensures)
     (c .before .before .before .before .if2 .left) _ _ (c .before .before .press-body .ensures)
 
 same-length-3 : tie.Need-same-length-3
@@ -65,13 +65,13 @@ returns-3 : tie.Need-returns-3
 returns-3 c =
     let a = c .before .before .before .before .before .before .args in
     back-none (now (a .code)) (a .n) (a .i) (now (a .counts)) (now (a .m))
-    (c .before .before .before .before .before .before .pre) _ (c .if1 .left) (c .before .has-lone .ensures)
+    (c .before .before .before .before .before .before .pre) _ (c .if1 .left) (c .before .has-scarce .ensures)
 
 pub back-spec : {M : Type 1} → statement M
 back-spec =
     tie.close
     (tie.spec
-    has-lone-requires
+    has-scarce-requires
     need-at-requires
     reach-requires
     same-length

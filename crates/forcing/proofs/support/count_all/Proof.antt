@@ -5,7 +5,7 @@ use native.Mathlib.Omega.{arith}
 use lib.ListN.{length}
 use denote.Ref.{now}
 use Rattle.rules.specs.Map.{side}
-use Rattle.forcing.proofs.Counting.{Counting, counting-begin, counting-small, counting-more, counting-end}
+use Rattle.forcing.proofs.Counting.{Counting, counting-begin, counting-more, counting-end}
 use Rattle.forcing.proofs.support.count_all.Statement.{statement}
 use Rattle.forcing.proofs.support.count_all.Tie as tie
 
@@ -25,15 +25,9 @@ loop-holds c =
 
 count-rule-requires : tie.Need-count-rule-requires Inv-loop μ-loop
 count-rule-requires c κs =
-    let a = c .before .before .before .before .before .before .args in (
-      c .before .before .before .before .before .before .pre .0 .rows (c .before .before .loop .i) (c .before .loop-test .taken),
-      record {
-        map = c .before .before .before .before .before .before .pre .1 .0;
-        small =
-            counting-small (now (a .code)) (a .n) (a .count) (side (a .n) (now (a .m))) (c .before .before .loop .i) _ (c .before .before .before .before .before .before .pre .0 .fewRules)
-            (c .before .before .loop .inv .1);
-      },
-    )
+    let l = c .before .before .loop in
+    let p = c .before .before .before .before .before .before .pre in
+    (p .0 .rows (l .i) (c .before .loop-test .taken), (p .1 .0, l .inv .1 .room))
 
 add-i : tie.Need-add-i Inv-loop μ-loop
 add-i c = omega arith

@@ -4,7 +4,7 @@ use native.Mathlib.Omega.{arith}
 use borrow.Author.Needs.{needs}
 use denote.Ref.{now}
 use Rattle.rules.specs.Map.{side}
-use Rattle.forcing.proofs.Counting.{Heading, heading-begin, heading-small, heading-more, heading-end}
+use Rattle.forcing.proofs.Counting.{Heading, heading-begin, heading-more, heading-end}
 use Rattle.forcing.proofs.support.count_heads.Statement.{statement}
 use Rattle.forcing.proofs.support.count_heads.Tie as tie
 
@@ -27,15 +27,11 @@ loop-holds c =
 
 count-pair-requires : tie.Need-count-pair-requires Inv-loop μ-loop
 count-pair-requires c κs =
-    let a = c .before .before .before .before .before .before .before .before .args in (
-      c .before .before .before .before .before .before .before .before .pre .0 .heads .pairs (c .before .before .loop .j) (c .before .before .loop .inv .low)
+    let l = c .before .before .loop in
+    let start = c .before .before .before .before .before .before .before .before in (
+      start .pre .0 .heads .pairs (l .j) (l .inv .low)
           (omega (arith, c .before .loop-test .taken, c .before .before .before .before .positives-at .ensures)),
-      record {
-        map = c .before .before .before .before .before .before .before .before .pre .1 .map;
-        small =
-            heading-small (now (a .code)) (a .n) (a .i) (c .before .before .before .before .before .before .before .before .pre .0) (side (a .n) (now (a .m))) (now (a .counts))
-            (c .before .before .before .before .before .before .before .before .pre .1 .small) _ _ (c .before .before .loop .inv);
-      },
+      (start .pre .1 .0, omega (arith, l .inv .long, start .pre .1 .1)),
     )
 
 add-j : tie.Need-add-j Inv-loop μ-loop

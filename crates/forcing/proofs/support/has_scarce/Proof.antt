@@ -1,22 +1,20 @@
--- `forcing::support::has_lone`: no head before the present one is so.
+-- `forcing::support::has_scarce`: no head before the present one is so.
 use Prim.Native.Nat.{_-_, _≤_}
 use native.Mathlib.Omega.{arith}
 use borrow.Author.Needs.{needs}
 use denote.Ref.{now}
 use Rattle.rules.specs.Map.{side}
 use Rattle.table.specs.inner.Rows.{headsAt}
-use Rattle.forcing.specs.inner.Support.{NotLone}
 use Rattle.forcing.proofs.HeadScans.{Sofar}
-use Rattle.forcing.proofs.Backing.{lone-here, lone-more, lone-nowhere}
-use Rattle.forcing.proofs.support.has_lone.Statement.{statement}
-use Rattle.forcing.proofs.support.has_lone.Tie as tie
+use Rattle.forcing.proofs.Backing.{Ample, scarce-here, scarce-more, scarce-nowhere}
+use Rattle.forcing.proofs.support.has_scarce.Statement.{statement}
+use Rattle.forcing.proofs.support.has_scarce.Tie as tie
 
 abbrev Inv-loop : tie.InvT-loop
-Inv-loop code n i m counts end j₀ j =
-    (headsAt code i ≤ j) × Sofar code i (NotLone n (side n m) counts) j
+Inv-loop code n i m counts least end j₀ j = (headsAt code i ≤ j) × Sofar code i (Ample code n i (side n m) counts least) j
 
 abbrev μ-loop : tie.MeasureT-loop
-μ-loop code n i m counts end j₀ j = end - j
+μ-loop code n i m counts least end j₀ j = end - j
 
 positives-at-requires : tie.Need-positives-at-requires Inv-loop μ-loop
 positives-at-requires c κs = search needs
@@ -27,8 +25,8 @@ heads-at-requires c κs = search needs
 loop-holds : tie.Need-loop-holds Inv-loop μ-loop
 loop-holds c = (omega (arith, c .heads-at .ensures), λ k l h. absurd (omega (arith, c .heads-at .ensures)))
 
-is-lone-requires : tie.Need-is-lone-requires Inv-loop μ-loop
-is-lone-requires c κs = (
+is-scarce-requires : tie.Need-is-scarce-requires Inv-loop μ-loop
+is-scarce-requires c κs = (
   c .before .before .before .before .before .before .before .pre .0 .heads .pairs (c .before .loop .j)
       (c .before .loop .inv .0) (omega (arith, c .loop-test .taken, c .before .before .before .positives-at .ensures)),
   c .before .before .before .before .before .before .before .pre .1,
@@ -37,10 +35,10 @@ is-lone-requires c κs = (
 returns : tie.Need-returns Inv-loop μ-loop
 returns c =
     let a = c .before .before .before .before .before .before .before .before .before .args in
-    lone-here (now (a .code)) (a .n) (a .i) (side (a .n) (now (a .m))) (now (a .counts)) (c .before .before .before .loop .j) _
+    scarce-here (now (a .code)) (a .n) (a .i) (side (a .n) (now (a .m))) (now (a .counts)) (a .least) (c .before .before .before .loop .j) _
     (c .before .before .before .loop .inv .0)
     (omega (arith, c .before .before .loop-test .taken, c .before .before .before .before .before .positives-at .ensures))
-    (c .if1 .taken) (c .before .is-lone .ensures)
+    (c .if1 .taken) (c .before .is-scarce .ensures)
 
 add-j : tie.Need-add-j Inv-loop μ-loop
 add-j c = omega arith
@@ -51,18 +49,18 @@ loop-less c = omega arith
 loop-again : tie.Need-loop-again Inv-loop μ-loop
 loop-again c =
     let a = c .before .before .before .before .before .before .before .before .before .args in
-    lone-more (now (a .code)) (a .n) (a .i) (side (a .n) (now (a .m))) (now (a .counts)) (c .before .before .before .loop .j) _
-    (c .before .before .before .loop .inv .0) (c .if1 .left) (c .before .is-lone .ensures)
+    scarce-more (now (a .code)) (a .n) (a .i) (side (a .n) (now (a .m))) (now (a .counts)) (a .least) (c .before .before .before .loop .j) _
+    (c .before .before .before .loop .inv .0) (c .if1 .left) (c .before .is-scarce .ensures)
     (c .before .before .before .loop .inv .1)
 
 returns-2 : tie.Need-returns-2 Inv-loop μ-loop
 returns-2 c =
     let a = c .before .before .before .before .before .before .before .args in
-    lone-nowhere (now (a .code)) (a .n) (a .i) (side (a .n) (now (a .m))) (now (a .counts)) (c .before .loop .j)
+    scarce-nowhere (now (a .code)) (a .n) (a .i) (side (a .n) (now (a .m))) (now (a .counts)) (a .least) (c .before .loop .j)
     (omega (arith, c .loop-test .left, c .before .before .before .positives-at .ensures)) (c .before .loop .inv .1)
 
-pub has-lone-spec : {M : Type 1} → statement M
-has-lone-spec =
+pub has-scarce-spec : {M : Type 1} → statement M
+has-scarce-spec =
     tie.close
     (tie.spec
     Inv-loop
@@ -70,7 +68,7 @@ has-lone-spec =
     positives-at-requires
     heads-at-requires
     loop-holds
-    is-lone-requires
+    is-scarce-requires
     returns
     add-j
     loop-less
