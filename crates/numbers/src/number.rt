@@ -54,7 +54,7 @@ pub fn read_number(s: &[u8], first: usize) -> Read
     refused(15, first)
 }
 
-// The number at a place where one was read before: nothing is refused.
+// The number at a place where one was read before: nothing is refused. Its groups count 1, 128, 16,384 and 2,097,152.
 pub fn take_number(s: &[u8], first: usize) -> Span
     ensures { λ r. ⌜ r ≡ takenAt (now (s .entry)) first ⌝ }
 {
@@ -62,25 +62,34 @@ pub fn take_number(s: &[u8], first: usize) -> Span
         return spanned(0, first, first);
     }
     let low = wide(s[first]);
+    let second = first + 1;
     if low < 128 {
-        return spanned(low, first, first + 1);
+        return spanned(low, first, second);
     }
-    let mut at = first + 1;
-    let mut sum: usize = low - 128;
-    let mut scale: usize = 128;
-    for _ in 1..4u32 {
-        if s.len() <= at {
-            return spanned(sum, first, at);
-        }
-        let group = wide(s[at]);
-        at += 1;
-        sum += group % 128 * scale;
-        if group < 128 {
-            return spanned(sum, first, at);
-        }
-        scale *= 128;
+    let one = low - 128;
+    if s.len() <= second {
+        return spanned(one, first, second);
     }
-    spanned(sum, first, at)
+    let group = wide(s[second]);
+    let two = one + group % 128 * 128;
+    let third = second + 1;
+    if group < 128 {
+        return spanned(two, first, third);
+    }
+    if s.len() <= third {
+        return spanned(two, first, third);
+    }
+    let above = wide(s[third]);
+    let three = two + above % 128 * 16_384;
+    let fourth = third + 1;
+    if above < 128 {
+        return spanned(three, first, fourth);
+    }
+    if s.len() <= fourth {
+        return spanned(three, first, fourth);
+    }
+    let top = wide(s[fourth]);
+    spanned(three + top % 128 * 2_097_152, first, fourth + 1)
 }
 
 // The number at a place, where it is one of `least` to `most`.

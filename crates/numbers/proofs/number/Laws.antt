@@ -135,7 +135,7 @@ module _ (s : List ℕ) (k first at sum scale : ℕ) where
     unfolding takenFrom pick
     taken-last b = simp (taken-opened h, lt-ltb _ _ l, ← g, lt-ltb _ _ b, mod-eq-of-lt b)
 
-    pub taken-more : 128 ≤ group → raised (sum + group % 128 * scale) (scale * 128) (takenFrom (4 - (k + 1)) s first (at + 1)) ≡ taken
+    taken-more : 128 ≤ group → raised (sum + group % 128 * scale) (scale * 128) (takenFrom (4 - (k + 1)) s first (at + 1)) ≡ taken
     unfolding takenFrom pick
     taken-more b =
         simp (taken-opened h, lt-ltb _ _ l, ← g, le-ltb _ _ b)
@@ -153,6 +153,13 @@ taken-started s first byte l g b w =
     ap (λ (sum : ℕ). raised sum 128 (takenFrom 3 s first (first + 1))) (low-group byte b w)
     ∙ taken-more s 0 first first 0 1 (omega arith) l byte g b
     ∙ taken-start s first
+
+-- a group that is not the last leads on to the next
+pub taken-on :
+    (s : List ℕ) (k first at sum scale : ℕ) → taken s k first at sum scale ≡ takenAt s first → k < 4 → at < length s → (group : ℕ)
+    → group ≡ getD s at 0 → 128 ≤ group → taken s (k + 1) first (at + 1) (sum + group % 128 * scale) (scale * 128) ≡ takenAt s first
+unfolding taken
+taken-on s k first at sum scale e h l group g b = taken-more s k first at sum scale h l group g b ∙ e
 
 pub taken-spent : (s : List ℕ) (k first at sum scale : ℕ) → 4 ≤ k → span sum first at ≡ taken s k first at sum scale
 unfolding taken takenFrom
