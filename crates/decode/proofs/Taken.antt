@@ -9,7 +9,7 @@ use lib.ListN.{length, length-map}
 use Rattle.rules.specs.Sum.{pick}
 use Rattle.rules.specs.Limits.{weightMost, numberMost}
 use Rattle.rules.specs.Number.{checkedAtom}
-use Rattle.rules.specs.Rule.{Rule, Weighted, basic, choice, kindNumber, one, ones, choiceRule}
+use Rattle.rules.specs.Rule.{Weighted, basic, choice, kindNumber, one, ones, choiceRule}
 use Rattle.rules.specs.declared.Atom.{Atom}
 use Rattle.rules.proofs.Inside.{atom-is}
 use Rattle.rules.proofs.Same.{rule-made}

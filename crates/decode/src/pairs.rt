@@ -26,13 +26,13 @@ pub(crate) struct WeightsEnd {
     pub mark: usize,
 }
 
-// One atom and its weight; and the pair after them.
+// One atom with its weight; and the pair after them.
 pub(crate) fn write_pair(code: &mut [u32], j: usize, atom: usize, weight: usize) -> usize
     requires { ⌜ PairFits (now code) j atom weight ⌝ }
     ensures { λ r. ⌜ PairsCopied (now (code .entry)) j (weighted atom weight ∷ []) (now (code .exit)) r ⌝ }
 {
-    set_word(code, PAIR * j, atom);
-    set_word(code, PAIR * j + 1, weight);
+    set_word(code, PAIR * j, weight);
+    set_word(code, PAIR * j + 1, atom);
     j + 1
 }
 
@@ -96,7 +96,7 @@ pub(crate) fn copy_weights(
     let mut mark = carried(before);
     while j < to {
         let weight = take_number(s, at);
-        set_word(code, PAIR * j + 1, weight.value);
+        set_word(code, PAIR * j, weight.value);
         mark = mixed(mark, j - from, weight.value);
         at = weight.next;
         j += 1;

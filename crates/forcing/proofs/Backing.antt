@@ -1,12 +1,12 @@
 -- Counts only fall as a map grows, so a rule that can still give an atom whose count was 1 is the one rule that can.
 use Prim.Native.Nat.{ℕ, _+_, _-_, _≤_, _<_}
-use mathlib.Core.Path.{_≡_, refl, sym, _∙_, ap, subst}
+use mathlib.Core.Path.{_≡_, refl, sym, _∙_, ap}
 use mathlib.Core.Bool.{Bool, true, false}
 use mathlib.Core.List.{List, List·Memᴰ}
 use native.Mathlib.Omega.{arith}
 use lib.Dec.{T}
 use Rattle.rules.specs.Rule.{Rule, Within}
-use Rattle.rules.specs.Map.{Map, side, is, want, reach, _⊑_}
+use Rattle.rules.specs.Map.{Map, side, want, reach, _⊑_}
 use Rattle.rules.specs.Forcing.{Closed, supports, Only}
 use Rattle.rules.specs.inner.Decides.{Decides}
 use Rattle.rules.proofs.Sum.{tally-mono, count-some}

@@ -1,7 +1,7 @@
 -- Each head of a rule is one atom, so a rule that can still give its heads adds one to the count of each that is in, and none
 -- twice; a head that has two needs no more. Each rule stands in one row, so where a count is not 1 there are two rules, or none.
 use Prim.Native.Nat.{ℕ, zero, suc, _+_, _-_, _≤_, _<_}
-use mathlib.Core.Path.{_≡_, refl, sym, _∙_, ap, subst}
+use mathlib.Core.Path.{_≡_, refl, sym, _∙_, ap}
 use mathlib.Core.Bool.{Bool, true, false, not, _&&_, _||_, and-true, and-false}
 use mathlib.Core.Logic.{⊎-elim}
 use mathlib.Core.List.{List, List·Memᴰ}

@@ -19,12 +19,12 @@ use Rattle.rules.proofs.Sum.{counted-most}
 use Rattle.table.specs.inner.Words.{pairWidth, wordAt, pairAtom, pairWeight, pairAt, pairsFrom, seg, segAtoms, Seg}
 
 -- an atom is not 0, which a word past the end would be
-pub atom-within : (c : List ℕ) (j : ℕ) → 1 ≤ pairAtom c j → pairWidth * j < length c
+pub atom-within : (c : List ℕ) (j : ℕ) → 1 ≤ pairAtom c j → pairWidth * j + 1 < length c
 unfolding pairAtom wordAt
 atom-within c j h =
-    ⊎-elim (λ (l : pairWidth * j < length c). l)
-    (λ (l : length c ≤ pairWidth * j). let z = List·getD-eq-default c 0 l in absurd (omega (arith, z, h)))
-    (below? (pairWidth * j) (length c))
+    ⊎-elim (λ (l : pairWidth * j + 1 < length c). l)
+    (λ (l : length c ≤ pairWidth * j + 1). let z = List·getD-eq-default c 0 l in absurd (omega (arith, z, h)))
+    (below? (pairWidth * j + 1) (length c))
 
 pub seg-done : (c : List ℕ) (j to : ℕ) → to ≤ j → seg c j to ≡ []
 unfolding seg pairsFrom

@@ -1,4 +1,4 @@
-// A table: the rules of a sheet as one list of words. A word past the end is 0; only `atom_there` asks anything of the words.
+// A table: the rules of a sheet as one list of words. A word past the end is 0; only `atom_there` and `weight_there` ask anything of the words.
 pub mod parts;
 
 ghost use Prim.Native.Nat.{_≤_};
@@ -25,21 +25,28 @@ pub fn word(code: &[u32], i: usize) -> u32
 pub fn atom_at(code: &[u32], j: u32) -> u32
     ensures { λ r. ⌜ r ≡ pairAtom (now (code .entry)) j ⌝ }
 {
-    word(code, PAIR * (j as usize))
-}
-
-// The same of a pair that has an atom: an atom is never 0, so its word is there, and no test is needed.
-pub fn atom_there(code: &[u32], j: u32) -> u32
-    requires { ⌜ 1 ≤ pairAtom (now code) j ⌝ }
-    ensures { λ r. ⌜ r ≡ pairAtom (now (code .entry)) j ⌝ }
-{
-    code[PAIR * (j as usize)]
+    word(code, PAIR * (j as usize) + 1)
 }
 
 pub fn weight_at(code: &[u32], j: u32) -> u32
     ensures { λ r. ⌜ r ≡ pairWeight (now (code .entry)) j ⌝ }
 {
-    word(code, PAIR * (j as usize) + 1)
+    word(code, PAIR * (j as usize))
+}
+
+// The same of a pair that has an atom: an atom is never 0, so its word is there, and the weight's before it; no test is needed.
+pub fn atom_there(code: &[u32], j: u32) -> u32
+    requires { ⌜ 1 ≤ pairAtom (now code) j ⌝ }
+    ensures { λ r. ⌜ r ≡ pairAtom (now (code .entry)) j ⌝ }
+{
+    code[PAIR * (j as usize) + 1]
+}
+
+pub fn weight_there(code: &[u32], j: u32) -> u32
+    requires { ⌜ 1 ≤ pairAtom (now code) j ⌝ }
+    ensures { λ r. ⌜ r ≡ pairWeight (now (code .entry)) j ⌝ }
+{
+    code[PAIR * (j as usize)]
 }
 
 // Has rule i a list of heads, of which it may give any?

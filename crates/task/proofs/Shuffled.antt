@@ -10,7 +10,6 @@ use Rattle.rules.specs.Map.{Map, Literal, Holding, Over, Whole, side, is, signe
 use Rattle.rules.specs.Forcing.{Closed, Least, computed}
 use Rattle.rules.proofs.Shuffle.{shuffled-sym, model-shuffled, first-shuffled, computed-same, least-asked, contradiction-asked}
 use Rattle.gate.specs.declared.Task.{Task}
-use Rattle.gate.specs.declared.Ask.{Ask}
 use Rattle.gate.specs.declared.Task.the-variants.{Stay, Open, Pin, Solve, Test, Rule as RuleTask}
 use Rattle.search.specs.inner.Search.{FirstIn}
 use Rattle.task.specs.inner.Perform.{ClosedFor, Tells, Comes, Performs}

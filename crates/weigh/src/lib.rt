@@ -48,7 +48,7 @@ fn weigh_pair(code: &[u32], n: u32, j: u32, m: &[u8], given: u8, equal: bool) ->
 {
     let x = side_of(m, n, table::atom_there(code, j));
     if meets_side(x, given, equal) {
-        table::weight_at(code, j)
+        table::weight_there(code, j)
     } else {
         0
     }

@@ -15,14 +15,14 @@ use Rattle.decode.proofs.words.Laws.{words-long, words-other, words-at}
 
 -- two words, one after the other, are a list of one
 pub pair-put :
-    (c : List ℕ) (j a w : ℕ) {d e : List ℕ} → d ≡ set c (pairWidth * j) a → e ≡ set d (pairWidth * j + 1) w
+    (c : List ℕ) (j a w : ℕ) {d e : List ℕ} → d ≡ set c (pairWidth * j) w → e ≡ set d (pairWidth * j + 1) a
     → PairsCopied c j (weighted a w ∷ []) e (j + 1)
 unfolding withPair withPairs withWords
-pair-put c j a w f g = record { code = g ∙ ap (λ (x : List ℕ). set x (pairWidth * j + 1) w) f; end = refl }
+pair-put c j a w f g = record { code = g ∙ ap (λ (x : List ℕ). set x (pairWidth * j + 1) a) f; end = refl }
 
 pub pair-long : (c : List ℕ) (j a w : ℕ) → length (withPair c j a w) ≡ length c
 unfolding withPair
-pair-long c j a w = words-long c (pairWidth * j) (a ∷ w ∷ [])
+pair-long c j a w = words-long c (pairWidth * j) (w ∷ a ∷ [])
 
 pub pairs-long : (c : List ℕ) (j : ℕ) (ls : List Weighted) → length (withPairs c j ls) ≡ length c
 unfolding withPairs
@@ -31,7 +31,7 @@ pairs-long c j (l ∷ ls) = pairs-long (withPair c j (l .atom) (l .weight)) (j +
 
 pub pair-below : (c : List ℕ) (j a v w : ℕ) → w < pairWidth * j → wordAt (withPair c j a v) w ≡ wordAt c w
 unfolding withPair
-pair-below c j a v w h = words-other c (pairWidth * j) (a ∷ v ∷ []) w (λ k l e. omega arith)
+pair-below c j a v w h = words-other c (pairWidth * j) (v ∷ a ∷ []) w (λ k l e. omega arith)
 
 pub pairs-below : (c : List ℕ) (j : ℕ) (ls : List Weighted) (w : ℕ) → w < pairWidth * j → wordAt (withPairs c j ls) w ≡ wordAt c w
 unfolding withPairs pairWidth
@@ -44,15 +44,15 @@ module _ (c : List ℕ) (j : ℕ) (l : Weighted) (ls : List Weighted) (room : pa
   pub atom-written : pairAtom (withPairs c j (l ∷ ls)) j ≡ l .atom
   unfolding pairAtom withPair withPairs pairWidth
   atom-written =
-      pairs-below (withPair c j (l .atom) (l .weight)) (j + 1) ls (pairWidth * j) (omega arith)
-      ∙ ap (wordAt (withPair c j (l .atom) (l .weight))) (sym (add-zero (pairWidth * j)))
-      ∙ words-at c (pairWidth * j) (l .atom ∷ l .weight ∷ []) 0 (omega arith) (omega arith)
+      pairs-below (withPair c j (l .atom) (l .weight)) (j + 1) ls (pairWidth * j + 1) (omega arith)
+      ∙ words-at c (pairWidth * j) (l .weight ∷ l .atom ∷ []) 1 (omega arith) (omega arith)
 
   pub weight-written : pairWeight (withPairs c j (l ∷ ls)) j ≡ l .weight
   unfolding pairWeight withPair withPairs pairWidth
   weight-written =
-      pairs-below (withPair c j (l .atom) (l .weight)) (j + 1) ls (pairWidth * j + 1) (omega arith)
-      ∙ words-at c (pairWidth * j) (l .atom ∷ l .weight ∷ []) 1 (omega arith) (omega arith)
+      pairs-below (withPair c j (l .atom) (l .weight)) (j + 1) ls (pairWidth * j) (omega arith)
+      ∙ ap (wordAt (withPair c j (l .atom) (l .weight))) (sym (add-zero (pairWidth * j)))
+      ∙ words-at c (pairWidth * j) (l .weight ∷ l .atom ∷ []) 0 (omega arith) (omega arith)
 
 -- two tables agree on the words of some pairs, so the pairs are the same
 pub run-same :
@@ -60,8 +60,8 @@ pub run-same :
 unfolding pairsFrom pairAtom pairWeight pairWidth
 run-same c d zero j same = refl
 run-same c d (suc k) j same =
-    let a : pairAtom d j ≡ pairAtom c j = same (pairWidth * j) (omega arith) (omega arith) in
-    let b : pairWeight d j ≡ pairWeight c j = same (pairWidth * j + 1) (omega arith) (omega arith) in
+    let a : pairAtom d j ≡ pairAtom c j = same (pairWidth * j + 1) (omega arith) (omega arith) in
+    let b : pairWeight d j ≡ pairWeight c j = same (pairWidth * j) (omega arith) (omega arith) in
     let r : pairsFrom d k (suc j) ≡ pairsFrom c k (suc j) = run-same c d k (suc j) (λ w l h. same w (omega arith) (omega arith)) in
     cc
 

@@ -37,13 +37,15 @@ pairs-set c j [] k w h = refl
 pairs-set c j (l ∷ ls) k w h =
     pairs-set (withPair c j (l .atom) (l .weight)) (j + 1) ls k w (omega arith)
     ∙ ap (λ (d : List ℕ). withPairs d (j + 1) ls)
-    (set-apart (set c (pairWidth * j) (l .atom)) (pairWidth * j + 1) k (l .weight) w (λ e. omega arith)
-    ∙ ap (λ (d : List ℕ). set d (pairWidth * j + 1) (l .weight))
-    (set-apart c (pairWidth * j) k (l .atom) w (λ e. omega arith)))
+    (set-apart (set c (pairWidth * j) (l .weight)) (pairWidth * j + 1) k (l .atom) w (λ e. omega arith)
+    ∙ ap (λ (d : List ℕ). set d (pairWidth * j + 1) (l .atom))
+    (set-apart c (pairWidth * j) k (l .weight) w (λ e. omega arith)))
 
-pair-weight : (c : List ℕ) (j a v w : ℕ) → set (withPair c j a v) (pairWidth * j + 1) w ≡ withPair c j a w
+pair-weight : (c : List ℕ) (j a v w : ℕ) → set (withPair c j a v) (pairWidth * j) w ≡ withPair c j a w
 unfolding withPair withWords
-pair-weight c j a v w = set-twice (set c (pairWidth * j) a) (pairWidth * j + 1) v w
+pair-weight c j a v w =
+    set-apart (set c (pairWidth * j) v) (pairWidth * j + 1) (pairWidth * j) a w (λ e. omega arith)
+    ∙ ap (λ (d : List ℕ). set d (pairWidth * j + 1) a) (set-twice c (pairWidth * j) v w)
 
 pub weights-on :
     (c : List ℕ) (j : ℕ) (xs ws : List ℕ) → length xs ≡ length ws → withWeights (withPairs c j (ones xs)) j ws ≡ withPairs c j (paired xs ws)
@@ -53,7 +55,7 @@ weights-on c j [] (w ∷ ws) e = absurd (omega arith)
 weights-on c j (x ∷ xs) [] e = absurd (omega arith)
 weights-on c j (x ∷ xs) (w ∷ ws) e =
     ap (λ (d : List ℕ). withWeights d (j + 1) ws)
-    (pairs-set (withPair c j x 1) (j + 1) (ones xs) (pairWidth * j + 1) w (omega arith)
+    (pairs-set (withPair c j x 1) (j + 1) (ones xs) (pairWidth * j) w (omega arith)
     ∙ ap (λ (d : List ℕ). withPairs d (j + 1) (ones xs)) (pair-weight c j x 1 w))
     ∙ weights-on (withPair c j x w) (j + 1) xs ws (omega arith)
 
@@ -63,13 +65,13 @@ pub weights-below :
 unfolding withWeights pairWidth
 weights-below c j [] k ls h = refl
 weights-below c j (w ∷ ws) k ls h =
-    ap (λ (d : List ℕ). withWeights d (j + 1) ws) (pairs-set c k ls (pairWidth * j + 1) w (omega arith))
-    ∙ weights-below (set c (pairWidth * j + 1) w) (j + 1) ws k ls (omega arith)
+    ap (λ (d : List ℕ). withWeights d (j + 1) ws) (pairs-set c k ls (pairWidth * j) w (omega arith))
+    ∙ weights-below (set c (pairWidth * j) w) (j + 1) ws k ls (omega arith)
 
 pub weights-long : (c : List ℕ) (j : ℕ) (ws : List ℕ) → length (withWeights c j ws) ≡ length c
 unfolding withWeights
 weights-long c j [] = refl
-weights-long c j (w ∷ ws) = weights-long (set c (pairWidth * j + 1) w) (j + 1) ws ∙ length-set c (pairWidth * j + 1) w
+weights-long c j (w ∷ ws) = weights-long (set c (pairWidth * j) w) (j + 1) ws ∙ length-set c (pairWidth * j) w
 
 -- what is left of the weights of the pairs from j to before another, the first of which is at a place, makes up all of them
 pub record WeightsLeft (s c₀ : List ℕ) (from to first before : ℕ) (c : List ℕ) (j at mark : ℕ) : Type 0 where
@@ -101,7 +103,7 @@ module _
     (left : WeightsLeft s c₀ from to first before c j at mark)
   where
     pub weights-turn :
-        j < to → {p : Span} → p ≡ takenAt s at → {d : List ℕ} → d ≡ set c (pairWidth * j + 1) (p .value)
+        j < to → {p : Span} → p ≡ takenAt s at → {d : List ℕ} → d ≡ set c (pairWidth * j) (p .value)
         → {m : ℕ} → m ≡ mixed mark (j - from) (p .value) → WeightsLeft s c₀ from to first before d (j + 1) (p .next) m
     unfolding withWeights
     weights-turn h {p} e {d} w {m} f =
@@ -119,7 +121,7 @@ module _
               ap (λ (k : ℕ). mixedAll 1 m k (numbersFrom (to - (j + 1)) s (p .next))) z
               ∙ mark-turn 1 mark (j - from) (numbers-turn s to j at h e) f
               ∙ left .marked;
-          long = ap length w ∙ length-set c (pairWidth * j + 1) (p .value) ∙ left .long;
+          long = ap length w ∙ length-set c (pairWidth * j) (p .value) ∙ left .long;
         }
 
     pub weights-done : to ≤ j → WeightsCopied s first c₀ from to before c (record { next = at; mark = mark })

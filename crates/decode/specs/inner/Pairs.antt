@@ -15,7 +15,7 @@ use Rattle.decode.specs.declared.pairs.Reached.{Reached}
 use Rattle.decode.specs.declared.pairs.WeightsEnd.{WeightsEnd}
 
 unfoldable pub withPair : List ℕ → ℕ → ℕ → ℕ → List ℕ
-withPair c j atom weight = withWords c (pairWidth * j) (atom ∷ weight ∷ [])
+withPair c j atom weight = withWords c (pairWidth * j) (weight ∷ atom ∷ [])
 
 unfoldable pub withPairs : List ℕ → ℕ → List Weighted → List ℕ
 withPairs c j [] = c
@@ -24,7 +24,7 @@ withPairs c j (l ∷ ls) = withPairs (withPair c j (l .atom) (l .weight)) (j + 1
 -- weights over those of the pairs from pair j on
 unfoldable pub withWeights : List ℕ → ℕ → List ℕ → List ℕ
 withWeights c j [] = c
-withWeights c j (w ∷ ws) = withWeights (set c (pairWidth * j + 1) w) (j + 1) ws
+withWeights c j (w ∷ ws) = withWeights (set c (pairWidth * j) w) (j + 1) ws
 
 -- there is room for a pair, and its numbers are a sheet's
 pub record PairFits (c : List ℕ) (j atom weight : ℕ) : Type 0 where

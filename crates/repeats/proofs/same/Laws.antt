@@ -1,7 +1,7 @@
 -- Two rows have the same rule exactly when their words tell the same: each list of a rule is a run of pairs, two runs are the same list
 -- when they are as long and the same pair by pair, and heads weigh 1, so that their atoms are all there is to tell.
 use Prim.Native.Nat.{ℕ, zero, suc, _+_, _-_, _≤_, _<_}
-use mathlib.Core.Path.{_≡_, refl, sym, _∙_, ap, ap₂, subst}
+use mathlib.Core.Path.{_≡_, refl, sym, _∙_, ap, ap₂}
 use mathlib.Core.Bool.{Bool, true, false}
 use mathlib.Core.List.{List, _∷_}
 use mathlib.Core.Logic.{⊎-elim}

@@ -7,6 +7,9 @@ use Rattle.table.proofs.atom_at.Tie as tie
 mul-word : tie.Need-mul-word
 mul-word c = search needs
 
+add-word : tie.Need-add-word
+add-word c = search needs
+
 word-requires : tie.Need-word-requires
 word-requires c κs = search needs
 
@@ -15,4 +18,4 @@ unfolding pairAtom pairWidth
 returns c = search needs
 
 pub atom-at-spec : {M : Type 1} → statement M
-atom-at-spec = tie.close (tie.spec mul-word word-requires returns)
+atom-at-spec = tie.close (tie.spec mul-word add-word word-requires returns)

@@ -9,6 +9,9 @@ use Rattle.table.proofs.atom_there.Tie as tie
 mul-result : tie.Need-mul-result
 mul-result c = search needs
 
+add-result : tie.Need-add-result
+add-result c = search needs
+
 mul-result-2 : tie.Need-mul-result-2
 mul-result-2 c = search needs
 
@@ -21,4 +24,4 @@ unfolding pairAtom wordAt pairWidth
 returns c = search needs
 
 pub atom-there-spec : {M : Type 1} → statement M
-atom-there-spec = tie.close (tie.spec mul-result mul-result-2 shared-slice-read-result returns)
+atom-there-spec = tie.close (tie.spec mul-result add-result mul-result-2 shared-slice-read-result returns)

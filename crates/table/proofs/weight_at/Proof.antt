@@ -7,9 +7,6 @@ use Rattle.table.proofs.weight_at.Tie as tie
 mul-word : tie.Need-mul-word
 mul-word c = search needs
 
-add-word : tie.Need-add-word
-add-word c = search needs
-
 word-requires : tie.Need-word-requires
 word-requires c κs = search needs
 
@@ -18,4 +15,4 @@ unfolding pairWeight pairWidth
 returns c = search needs
 
 pub weight-at-spec : {M : Type 1} → statement M
-weight-at-spec = tie.close (tie.spec mul-word add-word word-requires returns)
+weight-at-spec = tie.close (tie.spec mul-word word-requires returns)

@@ -1,5 +1,5 @@
 -- "A body is a list of positive atoms and then a list of negated atoms." In a table each list stands as a run of pairs of words,
--- an atom and the weight of its literal; a list of heads stands so too. A table is one list of words, and a word past its end is 0.
+-- the weight of a literal and its atom; a list of heads stands so too. A table is one list of words, and a word past its end is 0.
 use Prim.Native.Nat.{ℕ, zero, suc, _+_, _*_, _-_, _≤_, _<_}
 use mathlib.Core.Bool.{Bool, true, false}
 use mathlib.Core.List.{List, [], _∷_}
@@ -17,12 +17,12 @@ pairWidth = 2
 unfoldable pub wordAt : List ℕ → ℕ → ℕ
 wordAt c i = getD c i 0
 
--- pair j stands at the words 2 j and 2 j + 1
+-- pair j stands at the words 2 j and 2 j + 1; the atom, which is never 0, comes last, so that where it is there the weight is too
 unfoldable pub pairAtom : List ℕ → ℕ → ℕ
-pairAtom c j = wordAt c (pairWidth * j)
+pairAtom c j = wordAt c (pairWidth * j + 1)
 
 unfoldable pub pairWeight : List ℕ → ℕ → ℕ
-pairWeight c j = wordAt c (pairWidth * j + 1)
+pairWeight c j = wordAt c (pairWidth * j)
 
 abbrev pub pairAt : List ℕ → ℕ → Weighted
 pairAt c j = weighted (pairAtom c j) (pairWeight c j)

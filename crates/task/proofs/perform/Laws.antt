@@ -1,7 +1,7 @@
 -- The tasks, put together: literals held and the map closed are the smallest closed map that holds both; the models above the opened
 -- map are all that agree; and what is asked of a rule is told.
 use Prim.Native.Nat.{ℕ, _≤_}
-use mathlib.Core.Path.{_≡_, refl, sym, _∙_, ap, subst}
+use mathlib.Core.Path.{_≡_, refl, sym, _∙_, subst}
 use mathlib.Core.Bool.{Bool, true, false, true≢false, false≢true}
 use mathlib.Core.List.{List, [], _∷_}
 use lib.ListN.{length}

@@ -15,15 +15,15 @@ side-of-requires c κs = search needs
 meets-side-requires : tie.Need-meets-side-requires
 meets-side-requires c κs = search needs
 
-weight-at-requires : tie.Need-weight-at-requires
-weight-at-requires c κs = search needs
+weight-there-requires : tie.Need-weight-there-requires
+weight-there-requires c κs = search needs
 
 returns : tie.Need-returns
 returns c =
     let a = c .before .before .before .before .before .before .before .args in
     counts (side (a .n) (now (a .m))) (a .equal) (a .given) _ _ _ _ _ _ (c .before .before .before .before .atom-there .ensures)
     (c .before .before .before .side-of .ensures) (c .before .before .meets-side .ensures) (c .before .if1 .taken)
-    (c .weight-at .ensures)
+    (c .weight-there .ensures)
 
 returns-2 : tie.Need-returns-2
 returns-2 c =
@@ -38,6 +38,6 @@ weigh-pair-spec =
     atom-there-requires
     side-of-requires
     meets-side-requires
-    weight-at-requires
+    weight-there-requires
     returns
     returns-2)

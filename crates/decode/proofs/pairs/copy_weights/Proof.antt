@@ -29,10 +29,6 @@ mul-set-word : tie.Need-mul-set-word Inv-loop μ-loop
 unfolding pairWidth
 mul-set-word c = omega arith
 
-add-set-word : tie.Need-add-set-word Inv-loop μ-loop
-unfolding pairWidth
-add-set-word c = omega arith
-
 set-word-requires : tie.Need-set-word-requires Inv-loop μ-loop
 unfolding pairWidth
 set-word-requires c κs =
@@ -83,7 +79,6 @@ copy-weights-spec =
     loop-holds
     take-number-requires
     mul-set-word
-    add-set-word
     set-word-requires
     sub-mixed
     mixed-requires
