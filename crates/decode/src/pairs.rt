@@ -1,4 +1,5 @@
-// Lists of atoms and literals, written as pairs of words.
+// Lists of atoms and literals, written as pairs of words. A rule's mark goes on from list to list: `before` is that of what was written
+// of the rule before.
 ghost use Prim.Native.Nat.{_≤_, _*_};
 ghost use mathlib.Core.List.{[], _∷_};
 ghost use lib.ListN.{length};

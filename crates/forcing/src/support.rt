@@ -114,7 +114,8 @@ pub fn count_all(code: &[u32], n: u32, count: u32, m: &[u8], counts: &mut [u8])
     }
 }
 
-// Rule i: where it is the one rule that can give a head that is in, the literals that its need cannot do without are made true.
+// Rule i: where it is the one rule that can give a head that is in, the literals that its need cannot do without are made true. A head that
+// came in on the way has no count, and is left for the next pass.
 fn back(code: &[u32], n: u32, i: u32, counts: &[u8], m: &mut [u8]) -> Outcome
     requires { ⌜ BackAsks (now code) n i (now counts) (now m) ⌝ }
     ensures { λ r. ⌜ Backs (now (code .entry)) n i (now (counts .entry)) (now (m .entry)) (now (m .exit)) r ⌝ }

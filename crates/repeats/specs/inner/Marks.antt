@@ -45,6 +45,7 @@ bodyMark mark weighs pos neg =
     pick weighs (weightsMark (weightsMark (atomsMark (atomsMark mark (atomsOf pos)) (atomsOf neg)) (weightsOf pos)) (weightsOf neg))
     (atomsMark (atomsMark mark (atomsOf pos)) (atomsOf neg))
 
+-- of heads, body and need, which is a list of one number
 unfoldable pub ruleMark : Rule → ℕ
 ruleMark r =
     atomsMark

@@ -1,10 +1,10 @@
 //! Sheets on which repeats have to be looked for: many rules that give one
-//! atom, and long rules that differ late.
+//! atom, long rules that differ late, and rules as long as they can be.
 
 use super::problems::{ONE_BYTE, Problem};
 use outside::desk::Call;
 use outside::generator::filled;
-use outside::sheet::{MOST_ATOMS, MOST_RULES, Rule, Sheet, basic, choice, number_bytes, weight};
+use outside::sheet::{MOST_ATOMS, MOST_RULES, MOST_WEIGHT, Rule, Sheet, basic, choice, number_bytes, weight};
 use std::iter;
 
 /// All rules but the first give the last atom, and all differ.
@@ -20,6 +20,7 @@ pub fn repeats() -> Vec<Problem> {
         ("copies of one rule", asking(&[MOST_ATOMS], iter::repeat(basic(MOST_ATOMS, &[1, 2, 3], &[])))),
         ("weight rules that differ in a late weight", asking(&[MOST_ATOMS], late_weights())),
         ("long rules that differ in a late atom", asking(&[MOST_ATOMS], late_atoms())),
+        ("longest weight rules, all different", asking(&[MOST_ATOMS], longest_rules())),
     ];
     let mut problems = Vec::new();
     for call in [Call::Open, Call::Solve] {
@@ -68,6 +69,15 @@ fn late_weights() -> impl Iterator<Item = Rule> {
     })
 }
 
+/// Every atom with each sign, and weights as long as they can be, which are
+/// other ones in each rule.
+fn longest_rules() -> impl Iterator<Item = Rule> {
+    (0..).map(|turn| {
+        let literals = (1..=MOST_ATOMS).map(|atom| (atom, MOST_WEIGHT - turn)).collect::<Vec<_>>();
+        weight(MOST_ATOMS, MOST_WEIGHT, &literals, &literals)
+    })
+}
+
 /// A quarter of the atoms, and then another one in each rule.
 fn late_atoms() -> impl Iterator<Item = Rule> {
     let common = MOST_ATOMS / 4;
@@ -82,7 +92,7 @@ mod tests {
     use super::*;
     use outside::desk::Desk;
     use outside::repeats::{Near, different};
-    use outside::sheet::MOST_BYTES;
+    use outside::sheet::{MOST_BYTES, bytes_of};
     use std::collections::BTreeSet;
 
     fn sheet_of(name: &str) -> Sheet {
@@ -123,5 +133,14 @@ mod tests {
             assert!(rules.len() > 200 && sheet.bytes().len() > MOST_BYTES / 2, "{name}");
             assert_eq!(in_atoms(&sheet), 1, "{name}");
         }
+    }
+
+    #[test]
+    fn the_longest_rules_fill_a_sheet_and_are_all_different() {
+        let sheet = sheet_of("longest");
+        let rules = &sheet.rules[1..];
+        assert!(rules.iter().all(|rule| rule.length() == 2 * MOST_ATOMS));
+        assert_eq!(different(rules).len(), rules.len());
+        assert!(sheet.bytes().len() + bytes_of(&rules[0].numbers()).len() > MOST_BYTES);
     }
 }
