@@ -1,4 +1,6 @@
 // The calls for Rust and C: each hands on the desk's answer as one number. include/archive.h has them for C.
+#![tactic(auto)]
+
 mod code;
 
 ghost use Rattle.desk.specs.Promise.{Checks, Opens, Pins, Solves, Tests, Margins, Parts};

@@ -1,15 +1,15 @@
 // What the calls answer, as text on standard output.
 use desk::{Checked, MarginRead, Opened, Tested};
-use io::print_decimal;
-use libc::STDOUT_FILENO;
 use numbers::Refusal;
+use std::io;
+use std::io::Write;
 
-pub(crate) fn say(text: &[u8]) {
-    io::write_all(STDOUT_FILENO, text);
+pub(crate) fn say(rt: &impl Print, text: &[u8]) -> io::Result<()> {
+    io::writer(rt).write_all(text)
 }
 
-fn say_number(x: u64) {
-    print_decimal(STDOUT_FILENO, x);
+fn say_number(rt: &impl Print, x: u64) -> io::Result<()> {
+    print!(rt; "{x}")
 }
 
 fn widened(b: u8) -> u64 {
@@ -17,57 +17,57 @@ fn widened(b: u8) -> u64 {
 }
 
 // The first n bytes of a map, each after a space, and the end of the line.
-pub(crate) fn show_map(map: &[u8], n: usize) {
+pub(crate) fn show_map(rt: &impl Print, map: &[u8], n: usize) -> io::Result<()> {
     let mut i = 0;
     while i < n {
         if i < map.len() {
-            say(b" ");
-            say_number(widened(map[i]));
+            say(rt, b" ")?;
+            say_number(rt, widened(map[i]))?;
         }
         i += 1;
     }
-    say(b"\n");
+    say(rt, b"\n")
 }
 
-pub(crate) fn show_refusal(why: Refusal) {
-    say(b" refused by ");
-    say_number(why.number as u64);
-    say(b" at ");
-    say_number(why.place as u64);
+pub(crate) fn show_refusal(rt: &impl Print, why: Refusal) -> io::Result<()> {
+    say(rt, b" refused by ")?;
+    say_number(rt, why.number as u64)?;
+    say(rt, b" at ")?;
+    say_number(rt, why.place as u64)
 }
 
-pub(crate) fn show_checked(answer: Checked) {
+pub(crate) fn show_checked(rt: &impl Print, answer: Checked) -> io::Result<()> {
     match answer {
         Checked::Accepted(n, rules) => {
-            say(b" accepted, atoms ");
-            say_number(n as u64);
-            say(b", rules ");
-            say_number(rules as u64);
+            say(rt, b" accepted, atoms ")?;
+            say_number(rt, n as u64)?;
+            say(rt, b", rules ")?;
+            say_number(rt, rules as u64)?;
         }
-        Checked::Refused(why) => show_refusal(why),
+        Checked::Refused(why) => show_refusal(rt, why)?,
     }
-    say(b"\n");
+    say(rt, b"\n")
 }
 
-pub(crate) fn show_opened(answer: Opened) {
+pub(crate) fn show_opened(rt: &impl Print, answer: Opened) -> io::Result<()> {
     match answer {
         Opened::Closed(undecided) => {
-            say(b" closed, undecided ");
-            say_number(undecided as u64);
+            say(rt, b" closed, undecided ")?;
+            say_number(rt, undecided as u64)?;
         }
-        Opened::Contradiction => say(b" contradiction"),
-        Opened::Refused(why) => show_refusal(why),
+        Opened::Contradiction => say(rt, b" contradiction")?,
+        Opened::Refused(why) => show_refusal(rt, why)?,
     }
-    say(b":");
+    say(rt, b":")
 }
 
-pub(crate) fn show_tested(answer: Tested) {
+pub(crate) fn show_tested(rt: &impl Print, answer: Tested) -> io::Result<()> {
     match answer {
-        Tested::Stable => say(b" yes"),
-        Tested::NotStable => say(b" no"),
-        Tested::Refused(why) => show_refusal(why),
+        Tested::Stable => say(rt, b" yes")?,
+        Tested::NotStable => say(rt, b" no")?,
+        Tested::Refused(why) => show_refusal(rt, why)?,
     }
-    say(b"\n");
+    say(rt, b"\n")
 }
 
 // How far a margin is from 0.
@@ -78,17 +78,17 @@ fn size(margin: i64) -> u64 {
     1 + (-1 - margin) as u64
 }
 
-pub(crate) fn show_margin(answer: MarginRead) {
+pub(crate) fn show_margin(rt: &impl Print, answer: MarginRead) -> io::Result<()> {
     match answer {
         MarginRead::Is(margin) => {
             if margin < 0 {
-                say(b" -");
+                say(rt, b" -")?;
             } else {
-                say(b" ");
+                say(rt, b" ")?;
             }
-            say_number(size(margin));
+            say_number(rt, size(margin))?;
         }
-        MarginRead::Refused(why) => show_refusal(why),
+        MarginRead::Refused(why) => show_refusal(rt, why)?,
     }
-    say(b"\n");
+    say(rt, b"\n")
 }

@@ -1,5 +1,7 @@
 // An accepted sheet, decoded into a table: one row for each rule, however often it stands, and one for the compute lists, and their heads
 // and literals as pairs.
+#![tactic(auto)]
+
 ghost use Rattle.decode.specs.Inner.Decode.{Decodable, Decoded};
 
 mod pairs;
@@ -33,7 +35,7 @@ pub const LARGE_BYTES: usize = 32_768;
 pub const LARGE_WORDS: usize = 65_538;
 
 // How many rules a table holds, and the row of the rule that was asked for.
-#[derive(Drop)]
+#[derive(Clone, Copy)]
 pub struct Table {
     pub rules: usize,
     pub row: usize,

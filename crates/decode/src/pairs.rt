@@ -13,7 +13,7 @@ use repeats::{carried, mixed};
 use table::PAIR;
 
 // How far writing has come: the pair after what was written, and the place after what was taken from the sheet; and the mark with it.
-#[derive(Drop)]
+#[derive(Clone, Copy)]
 pub(crate) struct Reached {
     pub pair: usize,
     pub next: usize,
@@ -21,7 +21,7 @@ pub(crate) struct Reached {
 }
 
 // The place after weights that were taken from the sheet; and the mark with them.
-#[derive(Drop)]
+#[derive(Clone, Copy)]
 pub(crate) struct WeightsEnd {
     pub next: usize,
     pub mark: usize,

@@ -19,7 +19,7 @@ use table::ROW;
 
 // Where a body was written: the pair of its first negated literal, and the pair after its last; the place after it on the sheet; and the
 // mark with it.
-#[derive(Drop)]
+#[derive(Clone, Copy)]
 pub(crate) struct BodyEnds {
     pub negatives: usize,
     pub end: usize,
@@ -28,7 +28,7 @@ pub(crate) struct BodyEnds {
 }
 
 // How many rows rules were written in, which of them has the rule at an index, and the pair and the place after them.
-#[derive(Drop)]
+#[derive(Clone, Copy)]
 pub(crate) struct Rows {
     pub count: usize,
     pub row: usize,

@@ -23,7 +23,7 @@ use Rattle.rules.proofs.Inside.{inside_within}
 use Rattle.numbers.specs.Answer.{refusal}
 use Rattle.numbers.specs.declared.Refusal.{Refusal}
 use Rattle.sheet.specs.Sheet.{sheet_read}
-use Rattle.sheet.specs.Meaning.{accepted, sheet_meant}
+use Rattle.sheet.specs.Meaning.{sheet_meant}
 use Rattle.sheet.specs.declared.Outline.{Outline}
 use Rattle.sheet.specs.declared.SheetRead.TheVariants.{Accepted}
 use Rattle.sheet.proofs.Accepted.{outlined, numbered}

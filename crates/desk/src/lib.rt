@@ -1,4 +1,6 @@
 // The calls: check, part, open, pin, solve, test and margin, on any lent bytes.
+#![tactic(auto)]
+
 pub mod calls;
 pub mod hand;
 pub mod run;
@@ -7,14 +9,14 @@ pub use calls::{check, margin, open, part, pin, solve, test};
 use numbers::Refusal;
 
 // "Check a sheet": accepted with its atom count and its rule count.
-#[derive(Drop)]
+#[derive(Clone, Copy)]
 pub enum Checked {
     Accepted(usize, usize),
     Refused(Refusal),
 }
 
 // A part of a rule: its value, or that the rule has no such part.
-#[derive(Drop)]
+#[derive(Clone, Copy)]
 pub enum PartRead {
     Value(usize),
     Nothing,
@@ -22,28 +24,28 @@ pub enum PartRead {
 }
 
 // The map is closed, with this number of undecided atoms; or no closed map holds what is asked.
-#[derive(Drop)]
+#[derive(Clone, Copy)]
 pub enum Opened {
     Closed(usize),
     Contradiction,
     Refused(Refusal),
 }
 
-#[derive(Drop)]
+#[derive(Clone, Copy)]
 pub enum Solved {
     Model,
     NoModel,
     Refused(Refusal),
 }
 
-#[derive(Drop)]
+#[derive(Clone, Copy)]
 pub enum Tested {
     Stable,
     NotStable,
     Refused(Refusal),
 }
 
-#[derive(Drop)]
+#[derive(Clone, Copy)]
 pub enum MarginRead {
     Is(i64),
     Refused(Refusal),

@@ -16,7 +16,7 @@ use rules::RuleNo;
 use sheet::Outline;
 use task::{Answer, perform_task};
 
-#[derive(Drop)]
+#[derive(Clone, Copy)]
 pub enum Served {
     Done(Answer),
     Refused(Refusal),

@@ -1,5 +1,7 @@
 // Rules are read one after another from the lent sheet, by a reader that holds a reference to the sheet and a place.
 // The functions over a reader are thin: each takes it apart and leaves the work to a function of `steps`.
+#![tactic(auto)]
+
 ghost use Rattle.std.specs.Prelude.{◌≡◌};
 ghost use Rattle.reader.specs.Reader.{start_of, next_of, moved_to, moved_on, is_end, first_step};
 
@@ -11,7 +13,7 @@ pub use steps::step_at;
 use steps::{first_place, past_last, place_after};
 
 // The rules that are left on a sheet of so many atoms: how many, and where the first of them stands.
-#[derive(Drop)]
+#[derive(Clone, Copy)]
 pub struct Rest {
     pub atoms: usize,
     pub left: usize,
@@ -19,14 +21,14 @@ pub struct Rest {
 }
 
 // Where a reader stands: before the rules that are left, or at the refusal of its sheet.
-#[derive(Drop)]
+#[derive(Clone, Copy)]
 pub enum Place {
     Rules(Rest),
     Refused(Refusal),
 }
 
 // What one step finds: a rule and the place after it, the end of the rules, or a refusal.
-#[derive(Drop)]
+#[derive(Clone, Copy)]
 pub enum NextRule {
     Read(SheetRule, Place),
     End,

@@ -1,4 +1,6 @@
 // Which rules stand in a table already: a row that was written last is found again among those before it, or kept.
+#![tactic(auto)]
+
 pub mod marks;
 pub mod same;
 pub mod slots;

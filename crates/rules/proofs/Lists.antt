@@ -41,6 +41,7 @@ module _ {A : Type 0} where
   every p (x ∷ xs) = p x && every p xs
 
   pub every_T : (p : A → Bool) (xs : List A) → T (every p xs) → (x : A) → Memᴰ x xs → T (p x)
+  every_T p [] t x m = elim m [ ]
   every_T p (y ∷ ys) t x (Memᴰ.head e) = subst (λ (z : A). T (p z)) (sym e) (T_and_left (p y) (every p ys) t)
   every_T p (y ∷ ys) t x (Memᴰ.tail m) = every_T p ys (T_and_right (p y) (every p ys) t) x m
 

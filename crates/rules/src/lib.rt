@@ -1,23 +1,25 @@
 // The numbers of a sheet. What the rules mean is in specs/, and its laws are in proofs/.
+#![tactic(auto)]
+
 ghost use Rattle.std.specs.Prelude.{◌≡◌};
 ghost use Rattle.rules.specs.Number.{checked_atom, checked_rule};
 
 pub mod kind;
 
 // One of a list, or nothing where the list does not go so far.
-#[derive(Drop)]
+#[derive(Clone, Copy)]
 pub enum Item {
     Is(usize),
     Nothing,
 }
 
 // An atom of a sheet, 1 to the sheet's atom count. Only `checked` makes one.
-#[derive(Drop)]
+#[derive(Clone, Copy)]
 pub struct Atom {
     number: usize,
 }
 
-#[derive(Drop)]
+#[derive(Clone, Copy)]
 pub enum AtomOr {
     Is(Atom),
     Not,
@@ -49,12 +51,12 @@ impl Atom {
 }
 
 // A rule of a sheet by its place, 1 to the sheet's rule count. Only `checked` makes one.
-#[derive(Drop)]
+#[derive(Clone, Copy)]
 pub struct RuleNo {
     number: usize,
 }
 
-#[derive(Drop)]
+#[derive(Clone, Copy)]
 pub enum RuleOr {
     Is(RuleNo),
     Not,

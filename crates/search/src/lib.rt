@@ -1,4 +1,6 @@
 // The search for the first model above a closed map.
+#![tactic(auto)]
+
 ghost use Rattle.std.specs.Prelude.{◌+◌};
 ghost use Rattle.search.specs.Inner.Search.{Standing, Open, Tries, Follows, Answers};
 

@@ -1,5 +1,7 @@
 // A desk session: one record with a map of its own, with room for every sheet, which open and pin change in place.
 // The functions on a lent session are thin: each hands the record over by value, and takes back what it became.
+#![tactic(auto)]
+
 ghost use Rattle.std.specs.Prelude.{◌≡◌};
 ghost use Rattle.desk.specs.Promise.{Opens, Pins};
 ghost use Rattle.rules.specs.Map.{blank};
@@ -7,7 +9,7 @@ ghost use Rattle.rules.specs.Map.{blank};
 use desk::{Opened, open as open_map, pin as pin_map};
 use rules::Atom;
 
-#[derive(Drop)]
+#[derive(Clone, Copy)]
 pub struct Session {
     pub map: [u8; Atom::LAST],
 }

@@ -5,4 +5,4 @@ use Rattle.solve.specs.declared.Input.TheVariants.{Bytes, Failed}
 
 abbrev pub InBuffer : List ℕ → Input → Type 0
 InBuffer buffer (Bytes len) = (len ≤ length buffer) × (len ≡ length (take len buffer))
-InBuffer buffer Failed = Unit {0}
+InBuffer buffer (Failed why) = Unit {0}

@@ -1,4 +1,6 @@
 // A table: the rules of a sheet as one list of words. A word past the end is 0; only `atom_there` and `weight_there` ask anything of the words.
+#![tactic(auto)]
+
 pub mod parts;
 
 ghost use Rattle.std.specs.Prelude.{◌≤◌, ◌≡◌};

@@ -1,4 +1,6 @@
 // The text of the program's one line of output.
+#![tactic(auto)]
+
 ghost use Rattle.std.specs.Prelude.{min, ◌≡◌, length};
 ghost use Rattle.rules.specs.Limits.{atoms_most};
 ghost use Rattle.text.specs.Line.{model_line, none_line, refused_line, Spells};

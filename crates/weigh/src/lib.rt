@@ -1,4 +1,6 @@
 // The weight of a rule's body on a map: sure, reach and margin. What a step on a map promises, and the steps on one body.
+#![tactic(auto)]
+
 pub mod press;
 pub mod step;
 
@@ -15,7 +17,7 @@ pub use press::{press_body, side_for};
 pub use step::{is_clash, is_grew, is_same, join, put};
 
 // What a step on a map came to: no closed map holds the map; nothing to add; or something was added.
-#[derive(Drop)]
+#[derive(Clone, Copy)]
 pub enum Outcome {
     Clash,
     Same,

@@ -1,0 +1,10 @@
+-- `forcing::ground::founded`: what is gathered has to be in U, and each sweep that adds something leaves fewer atoms outside.
+use Rattle.rules.specs.Map.{undecided}
+use Rattle.forcing.proofs.Founding.{Founding}
+use Rattle.forcing.proofs.ground.founded.Given as goal
+
+abbrev pub invariant-loop-down : goal.invariant-loop-down
+invariant-loop-down l = Founding l.code l.n l.count l.m l.initial.u l.u
+
+abbrev pub decreases-loop-down : goal.decreases-loop-down
+decreases-loop-down l = undecided l.n l.u
