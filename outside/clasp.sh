@@ -3,7 +3,7 @@
 #
 #   outside/clasp.sh [COUNT [FIRST_SEED]]
 #
-# The solver is the program target/bin/solve of the repository where it is
+# The solver is the program crates/solve/out/solve of the repository where it is
 # built, and else the plain solver of this package; SOLVE=program names
 # another. clasp reads ground rules, so gringo is not needed. Where clasp is
 # missing, this says so and ends well. The first disagreement is printed with
@@ -21,7 +21,7 @@ fi
 
 cargo build --quiet --release -j1 --manifest-path "$here/Cargo.toml" --bin sheets
 sheets=$here/target/release/sheets
-solve=${SOLVE:-$here/../target/bin/solve}
+solve=${SOLVE:-$here/../crates/solve/out/solve}
 name=$(basename "$solve")
 if [ ! -x "$solve" ]; then
     solve="$sheets solve"

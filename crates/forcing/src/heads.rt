@@ -16,7 +16,8 @@ fn settle_head(code: &[u32], n: u32, i: u32, head: u32, x: u8, m: &mut [u8]) -> 
     if need <= held {
         return put(m, n, head, 1);
     }
-    if x == 2 {
+    let is_out = x == 2;
+    if is_out {
         return press_body(code, n, i, need - held, false, m);
     }
     Outcome::Same
@@ -32,7 +33,8 @@ fn settle(code: &[u32], n: u32, i: u32, m: &mut [u8]) -> Outcome
     }
     let head = table::atom_at(code, table::heads_at(code, i));
     let x = side_of(m, n, head);
-    if x == 1 {
+    let is_in = x == 1;
+    if is_in {
         return Outcome::Same;
     }
     settle_head(code, n, i, head, x, m)

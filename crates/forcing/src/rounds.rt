@@ -60,7 +60,9 @@ fn back_round(code: &[u32], n: u32, count: u32, m: &mut [u8]) -> Outcome
     if first_with(m, n, 1) == n {
         return Outcome::Same;
     }
-    if lowest(m, n) == n {
+    let open = lowest(m, n);
+    let is_whole = open == n;
+    if is_whole {
         return Outcome::Same;
     }
     let mut counts = [0u8; Atom::LAST];

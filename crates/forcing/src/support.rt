@@ -25,7 +25,8 @@ fn count_pair(code: &[u32], n: u32, j: u32, m: &[u8], counts: &mut [u8])
     ensures { Adds n (λ a. is 1 (side n m.now) a && eqb a (pair_atom code.now j)) counts.old counts.new }
 {
     let a = table::atom_at(code, j);
-    if side_of(m, n, a) != 1 {
+    let is_apart = side_of(m, n, a) != 1;
+    if is_apart {
         return;
     }
     let old = side_of(counts, n, a);
@@ -60,7 +61,8 @@ fn is_scarce(code: &[u32], n: u32, j: u32, m: &[u8], counts: &[u8], least: u8) -
     if k < least {
         return false;
     }
-    if 1 < k {
+    let is_many = 1 < k;
+    if is_many {
         return false;
     }
     true

@@ -19,7 +19,8 @@ pub fn read_number(s: &[u8], first: usize) -> Read
         return refused(1, s.len());
     }
     let byte = wide(s[first]);
-    if byte < 128 {
+    let is_short = byte < 128;
+    if is_short {
         return Read::Got(Span {
             value: byte,
             first,
@@ -37,7 +38,8 @@ pub fn read_number(s: &[u8], first: usize) -> Read
         at += 1;
         sum += group % 128 * scale;
         if group < 128 {
-            if group == 0 {
+            let is_needless = group == 0;
+            if is_needless {
                 return refused(2, first);
             }
             return Read::Got(Span {

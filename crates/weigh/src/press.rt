@@ -19,7 +19,8 @@ fn press_pair(code: &[u32], n: u32, j: u32, least: u32, v: u8, m: &mut [u8]) -> 
     }
     let a = table::atom_at(code, j);
     let x = side_of(m, n, a);
-    if x != 0 {
+    let is_decided = x != 0;
+    if is_decided {
         return Outcome::Same;
     }
     put(m, n, a, v)

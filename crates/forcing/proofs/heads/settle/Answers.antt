@@ -23,8 +23,8 @@ side_of-x-requires c =
       room = c.requires.1.room;
     }
 
-pub returns-then-x-eq1 : goal.returns-then-x-eq1
-returns-then-x-eq1 c =
+pub returns-then-is_in : goal.returns-then-is_in
+returns-then-is_in c =
     let a = c.args in
     settle_in a.code.now a.n a.i a.m.now
     c.requires.0
@@ -33,7 +33,7 @@ returns-then-x-eq1 c =
     _ _
     (c.atom_at-head.ensures ∙ ap (pair_atom a.code.now)
     c.heads_at.ensures)
-    c.side_of-x.ensures c.if-x-eq1.true
+    c.side_of-x.ensures c.if-is_in.true
     c.requires.1
 
 pub settle_head-requires : goal.settle_head-requires

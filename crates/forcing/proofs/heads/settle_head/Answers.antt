@@ -33,18 +33,18 @@ press_body-requires c = (
   c.requires.proper,
 )
 
-pub returns-then-x-eq2 : goal.returns-then-x-eq2
-returns-then-x-eq2 c =
+pub returns-then-is_out : goal.returns-then-is_out
+returns-then-is_out c =
     let a = c.args in
     settle_deny a.code.now a.n a.i a.m.now a.head a.x _ _
     c.requires
     c.need_at-need.ensures
     c.sure-held.ensures c.if-need-held.false
-    c.if-x-eq2.true _ _ c.press_body.ensures
+    c.if-is_out.true _ _ c.press_body.ensures
 
 pub returns : goal.returns
 returns c =
     let a = c.args in
     settle_wait a.code.now a.n a.i a.m.now a.head a.x _ _
     c.requires c.need_at-need.ensures
-    c.sure-held.ensures c.if-need-held.false c.if-x-eq2.false
+    c.sure-held.ensures c.if-need-held.false c.if-is_out.false

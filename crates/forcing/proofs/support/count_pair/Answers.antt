@@ -12,15 +12,15 @@ use Rattle.forcing.specs.Inner.Support.{up_to_two, Adds}
 use Rattle.forcing.proofs.Counting.{pair_in, pair_not_in}
 use Rattle.forcing.proofs.support.count_pair.Goals as goal
 
-pub side_of-requires : goal.side_of-requires
-side_of-requires c = record { within = subst (Within c.args.n) (sym c.atom_at-a.ensures) c.requires.0.within; room = c.requires.1.0 }
+pub side_of-is_apart-requires : goal.side_of-is_apart-requires
+side_of-is_apart-requires c = record { within = subst (Within c.args.n) (sym c.atom_at-a.ensures) c.requires.0.within; room = c.requires.1.0 }
 
-pub returns-then-side_of-ne1 : goal.returns-then-side_of-ne1
-returns-then-side_of-ne1 c =
+pub returns-then-is_apart : goal.returns-then-is_apart
+returns-then-is_apart c =
     let a = c.args in
     pair_not_in a.n a.counts.now (pair_atom a.code.now a.j) c.requires.0.within c.requires.1.1
     (side a.n a.m.now)
-    (λ e. c.if-side_of-ne1.true (c.side_of.ensures ∙ ap (side a.n a.m.now) c.atom_at-a.ensures ∙ e))
+    (λ e. c.if-is_apart.true (c.side_of-is_apart.ensures ∙ ap (side a.n a.m.now) c.atom_at-a.ensures ∙ e))
 
 pub side_of-old-requires : goal.side_of-old-requires
 side_of-old-requires c =
@@ -40,4 +40,4 @@ returns c =
     (c.one_more.ensures
     ∙ ap (λ (y : ℕ). up_to_two (y + 1)) (c.side_of-old.ensures ∙ ap (side a.n a.counts.now) atom))))
     (pair_in a.n a.counts.now at c.requires.0.within c.requires.1.1 (side a.n a.m.now)
-    (ap (side a.n a.m.now) (sym atom) ∙ sym c.side_of.ensures ∙ c.if-side_of-ne1.false))
+    (ap (side a.n a.m.now) (sym atom) ∙ sym c.side_of-is_apart.ensures ∙ c.if-is_apart.false))

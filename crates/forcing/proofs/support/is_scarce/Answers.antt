@@ -15,14 +15,14 @@ returns-then-k-least c =
     too_few a.n (side a.n a.m.now) a.counts.now a.least _ _ c.atom_at-a.ensures _ c.side_of-k.ensures
     c.if-k-least.true
 
-pub returns-then-k-gt1 : goal.returns-then-k-gt1
-returns-then-k-gt1 c =
+pub returns-then-is_many : goal.returns-then-is_many
+returns-then-is_many c =
     let a = c.args in
     too_many a.n (side a.n a.m.now) a.counts.now a.least _ _ c.atom_at-a.ensures _ c.side_of-k.ensures
-    c.if-k-gt1.true
+    c.if-is_many.true
 
 pub returns : goal.returns
 returns c =
     let a = c.args in
     held_scarce a.n (side a.n a.m.now) a.counts.now a.least _ _ c.atom_at-a.ensures _ c.side_of-k.ensures _
-    c.side_of-x.ensures c.if-x-ne1.false c.if-k-least.false c.if-k-gt1.false
+    c.side_of-x.ensures c.if-x-ne1.false c.if-k-least.false c.if-is_many.false

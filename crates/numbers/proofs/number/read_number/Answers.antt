@@ -10,10 +10,10 @@ use Rattle.numbers.proofs.number.read_number.Goals as goal
 pub returns-then-s-first : goal.returns-then-s-first
 returns-then-s-first c = c.refused.ensures ∙ ended _ 0 _ _ 0 1 (omega arith) c.if-s-first.true ∙ start _ _
 
-pub returns-then-byte-lt128 : goal.returns-then-byte-lt128
-returns-then-byte-lt128 c =
+pub returns-then-is_short : goal.returns-then-is_short
+returns-then-is_short c =
     let g = c.wide-byte in
-    sym (byte_read _ _ g.result c.if-s-first.false g.ensures.0 c.if-byte-lt128.true)
+    sym (byte_read _ _ g.result c.if-s-first.false g.ensures.0 c.if-is_short.true)
 
 pub loop-init : goal.loop-init
 loop-init c =
@@ -22,7 +22,7 @@ loop-init c =
       omega arith,
       omega arith,
       omega arith,
-      started _ _ g.result c.if-s-first.false g.ensures.0 c.if-byte-lt128.false g.ensures.1,
+      started _ _ g.result c.if-s-first.false g.ensures.0 c.if-is_short.false g.ensures.1,
     )
 
 pub returns-then-s-at : goal.returns-then-s-at
@@ -46,14 +46,14 @@ overflow_add-sum c =
       group_most l.counter l.scale (c.wide-group.result % 128) (omega arith) l.invariant.3 (omega arith),
     )
 
-pub returns-then-group-eq0 : goal.returns-then-group-eq0
-returns-then-group-eq0 c =
+pub returns-then-is_needless : goal.returns-then-is_needless
+returns-then-is_needless c =
     let l = c.loop in
-    c.refused-then-group-eq0.ensures
+    c.refused-then-is_needless.ensures
     ∙ needless _ l.counter _ l.at l.sum l.scale c.loop-test.true c.if-s-at.false c.wide-group.result
     c.wide-group.ensures.0
     l.invariant.1
-    c.if-group-eq0.true
+    c.if-is_needless.true
     ∙ l.invariant.4
 
 pub returns-then-group-lt128 : goal.returns-then-group-lt128
@@ -63,7 +63,7 @@ returns-then-group-lt128 c =
     c.wide-group.ensures.0
     l.invariant.1
     c.if-group-lt128.true
-    c.if-group-eq0.false
+    c.if-is_needless.false
     ∙ l.invariant.4
 
 pub overflow_mul-scale : goal.overflow_mul-scale

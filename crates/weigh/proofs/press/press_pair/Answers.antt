@@ -8,12 +8,12 @@ returns-then-weight-least c =
     pair_light a.code.now a.n a.j a.least a.v a.m.now c.requires _
     c.weight_at-weight.ensures c.if-weight-least.true
 
-pub returns-then-x-ne0 : goal.returns-then-x-ne0
-returns-then-x-ne0 c =
+pub returns-then-is_decided : goal.returns-then-is_decided
+returns-then-is_decided c =
     let a = c.args in
     pair_decided a.code.now a.n a.j a.least a.v a.m.now
     c.requires _ _ c.atom_at-a.ensures
-    c.side_of-x.ensures c.if-x-ne0.true
+    c.side_of-x.ensures c.if-is_decided.true
 
 pub returns : goal.returns
 returns c =
@@ -23,5 +23,5 @@ returns c =
     c.weight_at-weight.ensures
     c.if-weight-least.false
     c.atom_at-a.ensures
-    c.side_of-x.ensures c.if-x-ne0.false
+    c.side_of-x.ensures c.if-is_decided.false
     c.put.ensures
