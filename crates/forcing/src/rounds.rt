@@ -60,8 +60,8 @@ fn back_round(code: &[u32], n: u32, count: u32, m: &mut [u8]) -> Outcome
     if first_with(m, n, 1) == n {
         return Outcome::Same;
     }
-    let open = lowest(m, n);
-    let is_whole = open == n;
+    let first_open = lowest(m, n);
+    let is_whole = first_open == n;
     if is_whole {
         return Outcome::Same;
     }

@@ -40,7 +40,7 @@ fn write_line(rt: &impl Print, line: &[u8]) -> io::Result<()> {
 
 fn main(rt: HostRuntime) -> io::Result<()> {
     let mut buffer = [0u8; MOST];
-    let mut reader = rt.reader();
+    let mut reader = rt.stdin();
     match read_all(&mut reader, &mut buffer) {
         Input::Bytes(len) => {
             let line = answer(&buffer[..len]);

@@ -17,13 +17,13 @@ returns-then-first_with-n c =
     let a = c.args in
     backed_idle a.code.now a.n a.count a.m.now c.requires.1 _ c.first_with.ensures c.if-first_with-n.true
 
-pub lowest-open-requires : goal.lowest-open-requires
-lowest-open-requires c = c.requires.1.room
+pub lowest-first_open-requires : goal.lowest-first_open-requires
+lowest-first_open-requires c = c.requires.1.room
 
 pub returns-then-is_whole : goal.returns-then-is_whole
 returns-then-is_whole c =
     let a = c.args in
-    backed_whole a.code.now a.n a.count c.requires.0 a.m.now c.requires.1 _ c.lowest-open.ensures c.if-is_whole.true
+    backed_whole a.code.now a.n a.count c.requires.0 a.m.now c.requires.1 _ c.lowest-first_open.ensures c.if-is_whole.true
 
 pub count_all-requires : goal.count_all-requires
 unfolding atoms_most

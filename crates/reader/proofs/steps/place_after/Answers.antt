@@ -1,4 +1,4 @@
--- `place_after_law` meets its contract: each case of the step gives its own place.
+-- `place_after` meets its contract: each case of the step gives its own place.
 use Rattle.reader.proofs.steps.Laws.{steps}
 use Rattle.reader.proofs.steps.place_after.Goals as goal
 
