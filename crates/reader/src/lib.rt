@@ -35,7 +35,7 @@ pub enum NextRule {
     Refused(Refusal),
 }
 
-#[derive(Drop)]
+#[derive(Clone, Copy)]
 pub struct Reader<'a> {
     pub sheet: &'a [u8],
     pub place: Place,

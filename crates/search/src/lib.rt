@@ -9,14 +9,14 @@ use rules::Atom;
 use weigh::side_for;
 
 // A model's map, or that there is none.
-#[derive(Drop)]
+#[derive(Clone, Copy)]
 pub struct Found {
     pub model: bool,
     pub map: [u8; Atom::LAST],
 }
 
 // A closed map, or that there is none.
-#[derive(Drop)]
+#[derive(Clone, Copy)]
 pub struct Guessed {
     pub closed: bool,
     pub map: [u8; Atom::LAST],

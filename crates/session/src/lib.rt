@@ -15,7 +15,7 @@ pub struct Session {
 }
 
 // What a call makes of a session: the session after it, and the answer.
-#[derive(Drop)]
+#[derive(Clone, Copy)]
 pub struct Turn {
     pub session: Session,
     pub answer: Opened,

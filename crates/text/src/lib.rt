@@ -16,7 +16,7 @@ use put::{put_atoms, put_byte, put_spaced, put_word};
 pub const SIZE: usize = 4096;
 
 // A line is the first `len` of these bytes.
-#[derive(Drop)]
+#[derive(Clone, Copy)]
 pub struct Line {
     pub bytes: [u8; SIZE],
     pub len: usize,
