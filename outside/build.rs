@@ -1,6 +1,6 @@
 //! With the feature `archive`: links `libarchive.a` from the directory named
-//! by the environment variable `ARCHIVE_DIR`, or else from
-//! `crates/archive/out` of the repository that holds this package.
+//! by the environment variable `ARCHIVE_DIR`, or else from `target/staticlib`
+//! of the repository that holds this package.
 
 use std::env;
 use std::path::PathBuf;
@@ -22,7 +22,7 @@ fn archive_directory() -> PathBuf {
         Some(directory) => PathBuf::from(directory),
         None => {
             let package = env::var_os("CARGO_MANIFEST_DIR").expect("cargo names the package");
-            PathBuf::from(package).join("..").join("crates").join("archive").join("out")
+            PathBuf::from(package).join("..").join("target").join("staticlib")
         }
     }
 }
