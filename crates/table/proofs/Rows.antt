@@ -10,15 +10,17 @@ use native.Mathlib.Nat.{eq-or-lt_of_le, lt_trans}
 use native.Mathlib.Omega.{arith}
 use native.Mathlib.Numerals.{add-one}
 use lib.Dec.{T, eqb}
-use Rattle.rules.specs.Sum.{has}
-use Rattle.rules.specs.Rule.{Rule, Weighted, basic, constraint, choice, weight, chooses, body, Within, kind_number, atoms_of}
+use Rattle.rules.specs.Sum.{has, pick}
+use Rattle.rules.specs.Rule.{Rule, Weighted, kind_of, chooses, body, Within, kind_number, atoms_of}
+use Rattle.rules.specs.declared.kind.Kind.TheVariants.{Basic as basic, Constraint as constraint, Choice as choice, Weight as weight}
 use Rattle.rules.proofs.Fits.{Fits, Numbered}
 use Rattle.table.specs.Inner.Words.{pair_atom, seg}
-use Rattle.table.specs.Inner.Rows.{kind_of, row_rule, row_rules, table_rules, heads_at, positives_at, from, to, Row, Laid, table_sheet}
+use Rattle.table.specs.Inner.Rows.{row_rule, row_rules, table_rules, heads_at, positives_at, from, to, Row, Laid, table_sheet}
 use Rattle.table.proofs.Words.{Among, PairFound, AtomFound, seg_found, atoms_listed}
 
 -- of the four kinds only choice chooses
-three : (a b c : Bool) → chooses (cond a choice (cond b basic (cond c constraint weight))) ≡ a
+three : (a b c : Bool) → chooses (pick a choice (pick b basic (pick c constraint weight))) ≡ a
+unfolding pick
 three true b c = refl
 three false true c = refl
 three false false true = refl
