@@ -1,7 +1,7 @@
 -- "A rule is one of four kinds, each with its own head part." "Each rule has a need and each body literal a weight."
 -- Row i of a table stands for rule i + 1: kind, need, and the places of its heads, its positive and its negated literals, which end
 -- where the next row's heads begin.
-use Rattle.std.specs.Prelude.{ℕ, zero, suc, ◌+◌, ◌*◌, ◌≤◌, ◌<◌, ◌≡◌, Bool, true, false, not, cond, List, [], ◌∷◌, T, eqb}
+use Rattle.std.specs.Prelude.{ℕ, zero, suc, ◌+◌, ◌*◌, ◌≤◌, ◌<◌, ◌≡◌, Bool, true, false, not, List, [], ◌∷◌, T}
 use Rattle.rules.specs.Limits.{atoms_most, rules_most, number_most}
 use Rattle.rules.specs.Rule.{Rule, Sheet, kind_of, chooses, atoms_of}
 use Rattle.rules.specs.declared.kind.Kind.{Kind}
