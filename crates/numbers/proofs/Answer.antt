@@ -38,19 +38,26 @@ pub handed :
     → r ≡ up why → r ≡ read_then up a next
 handed V A r up next a x why h g e = handed_by (λ (y : A). y) r up next a x h why g e
 
+-- a refusal that was made is refused as the one that it is
+pub refused_as : (V : Type 0) (why other : Refusal) → why ≡ other → ◌≡◌ {A = Result V Refusal} (Err why) (Err other)
+refused_as V why other e = ap Err e
+
 -- a refusal is no value, and a value is one
-pub not_ok : {V : Type 0} {v : V} (why : Refusal) → Err why ≡ Ok v → ⊥
+pub not_ok : {V : Type 0} {v : V} (why : Refusal) → ◌≡◌ {A = Result V Refusal} (Err why) (Ok v) → ⊥
 not_ok why e = let z : ◌≡◌ {A = ℕ} 0 1 = cc in omega arith
 
-pub same_ok : {V : Type 0} {v w : V} → Ok v ≡ Ok w → v ≡ w
+pub same_ok : {V : Type 0} {v w : V} → ◌≡◌ {A = Result V Refusal} (Ok v) (Ok w) → v ≡ w
 same_ok e = cc
 
--- a checked number, as a result: the value, or the refusal where there is none
-pub some_ok : (V : Type 0) (o x : Option V) (v : V) (why : Refusal) → x ≡ o → x ≡ Some v → Ok v ≡ ok_or o why
-some_ok V o x v why h g = ap (λ (t : Option V). ok_or t why) (sym g ∙ h)
+-- the same of a checked number: the value, or the refusal where there is none
+module _ (V A : Type 0) (r : A) (up : Refusal → A) (next : V → A) (why : Refusal) (o x : Option V) where
+  pub some_by : (v : V) → x ≡ o → x ≡ Some v → r ≡ next v → r ≡ read_then up (ok_or o why) next
+  unfolding read_then
+  some_by v h g e = e ∙ ap (λ (t : Option V). read_then up (ok_or t why) next) (sym g ∙ h)
 
-pub none_err : (V : Type 0) (o x : Option V) (why : Refusal) → x ≡ o → x ≡ None → Err why ≡ ok_or o why
-none_err V o x why h g = ap (λ (t : Option V). ok_or t why) (sym g ∙ h)
+  pub none_by : x ≡ o → x ≡ None → r ≡ up why → r ≡ read_then up (ok_or o why) next
+  unfolding read_then
+  none_by h g e = e ∙ ap (λ (t : Option V). read_then up (ok_or t why) next) (sym g ∙ h)
 
 pub ok_some : {V : Type 0} {v : V} (o : Option V) (why : Refusal) → ok_or o why ≡ Ok v → o ≡ Some v
 ok_some (Some x) why e = cc
@@ -84,4 +91,4 @@ above a b x e h = lt-leb a b (omega (arith, e, h))
 pub one_left : (n k : ℕ) → k < n → n - k ≡ suc (n - (k + 1))
 one_left n k h = omega arith
 
-pub ruleset ways = (picked, passed, got, handed, some_ok, none_err, lt-ltb, le-ltb, le-leb, lt-leb, eq-eqb, ne_eqb)
+pub ruleset ways = (picked, passed, got, handed, some_by, none_by, refused_as, lt-ltb, le-ltb, le-leb, lt-leb, eq-eqb, ne_eqb)

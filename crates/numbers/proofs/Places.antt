@@ -10,16 +10,16 @@ use lib.Dec.{ltb, leb}
 use Rattle.rules.specs.Limits.{highest_refusal}
 use Rattle.rules.specs.Number.{checked_atom}
 use Rattle.rules.specs.Sum.{pick}
-use Rattle.rules.specs.declared.Atom.{Atom}
-use Rattle.numbers.specs.Answer.{OutsideLimits, refusal, read_then}
+use Rattle.numbers.specs.Answer.{Reason, EndsEarly, NotShortest, NoAtom, NotIncreasing, FourthByte, reason_number, OutsideLimits, refusal, read_then}
 use Rattle.numbers.specs.Number.{number_at, within_at}
 use Rattle.numbers.specs.Lists.{atom_at, up_to, in_turn, list_at}
 use Rattle.numbers.specs.Shown.Refusals.{NumberRefused, ends, padded, large}
 use Rattle.numbers.specs.declared.Refusal.{Refusal}
 use Rattle.numbers.specs.declared.Span.{Span}
+use Rattle.numbers.proofs.Reasons.{reason_numbered}
 use Rattle.numbers.proofs.number.Most.{number_far}
 use Rattle.numbers.proofs.number.Refusals.{refused_why}
-use Rattle.std.specs.Prelude.{Result, Ok, Err}
+use Rattle.std.specs.Prelude.{Option, Some, None, ok_or, Result, Ok, Err}
 
 -- a refusal of one of the numbers that there are, at a place up to the last
 pub record Placed (last : ℕ) (why : Refusal) : Type 0 where
@@ -30,7 +30,7 @@ pub placed : {last : ℕ} (reason : Reason) (place : ℕ) → place ≤ last →
 placed reason place l = record { number = (reason_numbered reason).1; place = l }
 
 -- an answer of a reader that stays within the bytes
-pub data Tame (s : List ℕ) : Read → Type 0 where
+pub data Tame (s : List ℕ) : Result Span Refusal → Type 0 where
   gets : (p : Span) → p.next ≤ length s → Tame s (Ok p)
   refuses : (why : Refusal) → Placed (length s) why → Tame s (Err why)
 

@@ -16,11 +16,12 @@ use Rattle.rules.specs.Sum.{pick}
 use Rattle.numbers.specs.Answer.{read_then, span}
 use Rattle.numbers.specs.Number.{groups_from, number_at}
 use Rattle.numbers.specs.Shown.Encode.{groups_of, number_bytes, IsBytes}
+use Rattle.numbers.specs.declared.Refusal.{Refusal}
 use Rattle.numbers.specs.declared.Span.{Span}
 use Rattle.numbers.proofs.Answer.{not_ok}
 use Rattle.numbers.proofs.Stands.{Stands}
 use Rattle.numbers.proofs.number.Most.{Groups, last, more, groups}
-use Rattle.std.specs.Prelude.{Ok}
+use Rattle.std.specs.Prelude.{Result, Ok}
 
 -- a group after the first is no needless one, so what it is a part of is 1 at least
 groups_some :
@@ -109,7 +110,7 @@ not_needless first at v some = by (ltb first at) refl
 regrouped : (v : ℕ) → (128 + v % 128) % 128 + 128 * (v / 128) ≡ v
 regrouped v = omega arith
 
-same_number : (first a b c d : ℕ) → a ≡ b → c ≡ d → Ok (span a first c) ≡ Ok (span b first d)
+same_number : (first a b c d : ℕ) → a ≡ b → c ≡ d → ◌≡◌ {A = Result Span Refusal} (Ok (span a first c)) (Ok (span b first d))
 same_number first a b c d e f = cc
 
 read_last :

@@ -65,7 +65,7 @@ pub scale_grows : (k scale : ℕ) → scale ≤ 128 ^ k → scale * 128 ≤ 128 
 scale_grows k scale w = rw (add-one, pow-suc) (mul-le-mul_right 128 w)
 
 module _ (s : List ℕ) (k first at sum scale : ℕ) where
-  unfoldable pub here : Read
+  unfoldable pub here : Result Span Refusal
   here = scaled sum scale (groups_from (4 - k) s first at)
 
   opened : k < 4 → here ≡ scaled sum scale (groups_from (suc (4 - (k + 1))) s first at)

@@ -17,10 +17,10 @@ use Rattle.numbers.specs.declared.Span.{Span}
 use Rattle.numbers.proofs.number.Look.{Look, at_end, left_out, final, further, look}
 use Rattle.std.specs.Prelude.{Result, Ok, Err}
 
-got_no_refusal : {why : Refusal} (p : Span) → Ok p ≡ Err why → ⊥
+got_no_refusal : {why : Refusal} (p : Span) → ◌≡◌ {A = Result Span Refusal} (Ok p) (Err why) → ⊥
 got_no_refusal p e = let z : ◌≡◌ {A = ℕ} 0 1 = cc in omega arith
 
-same_why : {why other : Refusal} → Err why ≡ Err other → why ≡ other
+same_why : {why other : Refusal} → ◌≡◌ {A = Result Span Refusal} (Err why) (Err other) → why ≡ other
 same_why e = cc
 
 read_refused : {why : Refusal} (f : Span → Span) (a : Result Span Refusal) → read_then Err a (λ p. Ok (f p)) ≡ Err why → a ≡ Err why

@@ -1,4 +1,5 @@
 -- `read_atoms` meets its contract: the atoms of one byte are passed first. The loop's invariant: the run of the atoms that are left, from here on, is the whole answer.
+use mathlib.Core.Path.{◌∙◌, ap}
 use native.Mathlib.Omega.{arith}
 use Rattle.numbers.proofs.lists.Laws.{turn, turn_out, turned}
 use Rattle.numbers.proofs.lists.read_atoms.Goals as goal
@@ -24,4 +25,5 @@ loop-preserved c =
 pub returns : goal.returns
 returns c =
     let l = c.loop in
-    turned _ _ l.counter l.above _ l.invariant.1 c.loop-test.false
+    ap Ok c.new.ensures
+    ∙ turned _ _ l.counter l.above _ l.invariant.1 c.loop-test.false
