@@ -94,6 +94,11 @@ module _ (c : List ℕ) (n i : ℕ) (row : Row c n i) where
       omega (arith, heads_rise (k - (j + 1)) j l (omega arith), ap (pair_atom c) d, e)
 
 module _ (c : List ℕ) (n count : ℕ) (laid : Laid c n count) where
+  -- every row of it stands, that of the compute lists too
+  pub row_stands : (i : ℕ) → i ≤ count → Row c n i
+  row_stands i h =
+      ⊎_elim (λ (e : i ≡ count). subst (Row c n) (sym e) laid.lists) (λ (l : i < count). laid.rows i l) (eq-or-lt_of_le h)
+
   row_of : (r : Rule) (s : Standing c 0 count r) → Row c n s.row
   row_of r s = laid.rows s.row s.among.high
 

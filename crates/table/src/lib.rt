@@ -1,6 +1,7 @@
 // A table: the rules of a sheet as one list of words. A word past the end is 0; only `atom_there` and `weight_there` ask anything of the words.
 #![tactic(auto)]
 
+pub mod laid;
 pub mod parts;
 
 ghost use Rattle.std.specs.Prelude.{◌≤◌, ◌≡◌};
@@ -8,6 +9,7 @@ ghost use Rattle.rules.specs.Rule.{chooses};
 ghost use Rattle.table.specs.Inner.Words.{word_at, pair_atom, pair_weight};
 ghost use Rattle.table.specs.Inner.Rows.{kind_at, need_at, heads_at, positives_at, negatives_at, end_at};
 
+pub use laid::{Table, TableRow};
 pub use parts::{kind_at, part};
 use rules::Kind;
 
