@@ -9,7 +9,8 @@ use lib.ListN.{length, get_or}
 use lib.Dec.{lit<}
 use borrow.Author.Tests.{lt-ltb, le-ltb, ne_eqb}
 use Rattle.rules.specs.Sum.{pick}
-use Rattle.numbers.specs.Answer.{EndsEarly, NotShortest, FourthByte, read_then, span, refusal}
+use Rattle.numbers.specs.Answer.{read_then, span, refusal}
+use Rattle.numbers.specs.declared.reason.Reason.TheVariants.{EndsEarly, NotShortest, FourthByte}
 use Rattle.numbers.specs.Number.{groups_from, number_at, higher, taken_from, taken_at}
 use Rattle.numbers.specs.declared.Span.{Span}
 use Rattle.numbers.proofs.Answer.{one_left}

@@ -14,11 +14,11 @@ use Rattle.rules.specs.Stable.{weight_sum, Dead, Living}
 use Rattle.rules.specs.declared.Atom.{Atom}
 use Rattle.rules.proofs.Inside.{atom_made}
 use Rattle.rules.proofs.Dead.{length_living}
-use Rattle.numbers.specs.Answer.{refusal, read_then, atom_then, span}
+use Rattle.numbers.specs.Answer.{refusal, read_then, span}
+use Rattle.numbers.specs.declared.reason.Reason.TheVariants.{BoundTooHigh}
 use Rattle.numbers.specs.Number.{number_at}
 use Rattle.numbers.specs.Lists.{numbers_of}
 use Rattle.numbers.specs.Shown.Encode.{number_bytes, numbers_bytes, list_bytes, none, Rising}
-use Rattle.numbers.specs.declared.Read.TheVariants.{Got}
 use Rattle.numbers.proofs.number.Encoded.{number_read, past}
 use Rattle.numbers.proofs.lists.Whole.{list_span, list_read, list_numbers, list_past_law}
 use Rattle.sheet.specs.Body.{need_for, body_at, unless_above, unless_dead}
@@ -28,15 +28,15 @@ use Rattle.sheet.specs.Shown.Encode.{rule_bytes, before_bound, ProperRule, is_ba
 use Rattle.sheet.specs.declared.SheetKind.{SheetKind}
 use Rattle.sheet.specs.declared.SheetKind.TheVariants.{Basic, Constraint, Choice, Weight}
 use Rattle.sheet.specs.declared.SheetRule.{SheetRule}
-use Rattle.sheet.specs.declared.RuleRead.{RuleRead}
-use Rattle.sheet.specs.declared.RuleRead.TheVariants.{Got as GotRule, Refused as RefusedRule}
 use Rattle.sheet.proofs.body.Ran.{body_ran}
 use Rattle.sheet.proofs.body.Dead.{Lives, lives_on}
 use Rattle.sheet.proofs.body.Written.{BodyWritten, body_written}
 use Rattle.sheet.proofs.rule.Apart.{plain_body, sizes, weigh_back}
+use Rattle.std.specs.Prelude.{Result, Ok, Err}
+use Rattle.numbers.specs.declared.Refusal.{Refusal}
 
 pub record RuleWritten (s : List ℕ) (n at : ℕ) (m : Rule) (q : List ℕ) (r : SheetRule) : Type 0 where
-  pub reads : rule_at s n at ≡ unless_dead s (at + before_bound m) (GotRule r)
+  pub reads : rule_at s n at ≡ unless_dead s (at + before_bound m) (Ok r)
   pub means : rule_meant s r ≡ m
   pub need : r.need ≡ m.need
   pub rest : drop r.next s ≡ q
@@ -50,23 +50,23 @@ module _ (s : List ℕ) {m : Rule} (r : SheetRule) (means : rule_meant s r ≡ m
   dies d = omega (arith, need, d, ap (λ (t : Rule). weight_sum t) means)
 
 module _ {s : List ℕ} {n at : ℕ} {m : Rule} {q : List ℕ} {r : SheetRule} (w : RuleWritten s n at m q r) where
-  pub living_read : Living m → rule_at s n at ≡ GotRule r
-  living_read l = w.reads ∙ lives_on s (at + before_bound m) (GotRule r) r refl (lives s r w.means w.need l)
+  pub living_read : Living m → rule_at s n at ≡ Ok r
+  living_read l = w.reads ∙ lives_on s (at + before_bound m) (Ok r) r refl (lives s r w.means w.need l)
 
-  pub dead_read : Dead m → rule_at s n at ≡ RefusedRule (refusal 16 (at + before_bound m))
+  pub dead_read : Dead m → rule_at s n at ≡ Err (refusal BoundTooHigh (at + before_bound m))
   unfolding unless_dead unless_above pick
   dead_read d =
       w.reads
-      ∙ ap (λ (b : Bool). pick b (RefusedRule (refusal 16 (at + before_bound m))) (GotRule r))
+      ∙ ap (λ (b : Bool). pick b (Err (refusal BoundTooHigh (at + before_bound m))) (Ok r))
       (lt-ltb (weight_sum (rule_meant s r)) r.need (dies s r w.means w.need d))
 
 abbrev numbered : ℕ → Atom
 numbered h = record { number = h }
 
 head_read :
-    (s : List ℕ) (n at h : ℕ) (q : List ℕ) (next : Atom → ℕ → RuleRead) → n ≤ number_most → Within n h
+    (s : List ℕ) (n at h : ℕ) (q : List ℕ) (next : Atom → ℕ → Result SheetRule Refusal) → n ≤ number_most → Within n h
     → drop at s ≡ number_bytes h ++ q → head_then s n at next ≡ next (numbered h) (at + length (number_bytes h))
-unfolding head_then read_then atom_then
+unfolding head_then read_then
 head_read s n at h q next m w d =
     simp (number_read s at h q (omega (arith, w.high)) d, atom_made n h w)
 
@@ -98,11 +98,11 @@ module _ {s : List ℕ} {n at : ℕ} {kind : SheetKind} {xs ys vs ws q : List �
 module _ (s : List ℕ) (n at : ℕ) (m : n ≤ number_most) where
   -- a rule without a bound
   plainly :
-      (t : Rule) (q : List ℕ) (r : SheetRule) → rule_at s n at ≡ GotRule r → rule_meant s r ≡ t → r.need ≡ t.need → Living t
+      (t : Rule) (q : List ℕ) (r : SheetRule) → rule_at s n at ≡ Ok r → rule_meant s r ≡ t → r.need ≡ t.need → Living t
       → drop r.next s ≡ q → RuleWritten s n at t q r
   plainly t q r e means need l rest =
       record {
-        reads = e ∙ sym (lives_on s (at + before_bound t) (GotRule r) r refl (lives s r means need l));
+        reads = e ∙ sym (lives_on s (at + before_bound t) (Ok r) r refl (lives s r means need l));
         means = means;
         need = need;
         rest = rest;
@@ -173,7 +173,7 @@ module _ (s : List ℕ) (n at : ℕ) (m : n ≤ number_most) where
 
   -- a kind, a head and a bound that were written, before a body
   record BoundWritten (weighs : Bool) (v h k : ℕ) (q : List ℕ) : Type 0 where
-    kind : number_at s at ≡ Got (span v at (at + length (number_bytes v)))
+    kind : number_at s at ≡ Ok (span v at (at + length (number_bytes v)))
     place : ℕ
     bound :
         bounded_at s n weighs (at + length (number_bytes v))
@@ -195,7 +195,7 @@ module _ (s : List ℕ) (n at : ℕ) (m : n ≤ number_most) where
       let read : bounded_at s n weighs a₁ ≡ unless_dead s a₂ (body_at s n (bounded weighs (numbered h) k) a₃) =
       simp (
         head_read s n a₁ h _
-            (λ head next. read_then RefusedRule (number_at s next)
+            (λ head next. read_then Err (number_at s next)
             (λ bound. unless_dead s next (body_at s n (bounded weighs head bound.value) bound.next)))
             m
             w

@@ -28,14 +28,14 @@ pub read_weights-requires-2 : goal.read_weights-requires-2
 unfolding number_most
 read_weights-requires-2 c =
     let pre = c.requires in (
-      omega (arith, sum_most _ 0 _ _ pre.0 c.read_weights.ensures _ c.in-Got.is),
+      omega (arith, sum_most _ 0 _ _ pre.0 c.read_weights.ensures _ c.in-Ok.is),
       pre.1,
     )
 
 pub returns-in-Refused-read_weights : goal.returns-in-Refused-read_weights
 returns-in-Refused-read_weights c =
     below_refused _ _ _ _ _ c.is_plain.ensures c.need-due.ensures _ c.if-is_plain.false c.read_weights.ensures _
-    c.in-Got.is
+    c.in-Ok.is
     c.read_weights-2.ensures
     _
     c.in-Refused-read_weights.is
@@ -44,10 +44,10 @@ returns-in-Refused-read_weights c =
 pub returns : goal.returns
 returns c =
     weights_read _ _ _ _ _ c.is_plain.ensures c.need-due.ensures _ c.if-is_plain.false c.read_weights.ensures _
-    c.in-Got.is
+    c.in-Ok.is
     c.read_weights-2.ensures
     _
-    c.in-Got-read_weights.is
+    c.in-Ok-read_weights.is
     c.weighed.ensures
     c.weighed-2.ensures
     c.unless_above-2.ensures

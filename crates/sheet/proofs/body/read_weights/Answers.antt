@@ -32,7 +32,7 @@ pub overflow_add-sum : goal.overflow_add-sum
 unfolding number_most
 overflow_add-sum c =
     let pre = c.requires in
-    let weight = limited _ _ _ _ _ (sym c.read_within-got.ensures ∙ c.in-Got.is) in
+    let weight = limited _ _ _ _ _ (sym c.read_within-got.ensures ∙ c.in-Ok.is) in
     omega (arith, added_most _ _ _ _ _ _ _ c.loop.invariant.2 pre.1, pre.0, number_most_law _ _ _ weight.number)
 
 pub loop-preserved : goal.loop-preserved
@@ -40,7 +40,7 @@ unfolding weight_at weight_most
 loop-preserved c =
     let l = c.loop in
     let here = c.loop-test.true in
-    let one = c.in-Got.is in (
+    let one = c.in-Ok.is in (
       omega arith,
       weights_alike _ _ _ _ _ ∙ turn _ _ l.counter _ _ l.invariant.1 here c.read_within-got.ensures _ one,
       added_weight _ _ _ _ l.counter l.sum l.at l.invariant.2 here c.read_within-got.ensures _ one,

@@ -23,7 +23,7 @@ loop-preserved c =
     let l = c.loop in (
       omega arith,
       turn _ _ l.counter 0 _ l.invariant.1 c.loop-test.true refl _
-          (step_got _ _ 0 l.at _ _ c.read_rule.ensures c.in-Got.is),
+          (step_got _ _ 0 l.at _ _ c.read_rule.ensures c.in-Ok.is),
     )
 
 pub returns : goal.returns
