@@ -51,6 +51,7 @@ fn read_weights(s: &[u8], before: usize, count: usize, first: usize) -> Result<S
 }
 
 // A rule, unless its need is above a sum: then it is refused at the place of its bound.
+#[tactic(auto, unfolding(crate::specs::Body::unless_above, rules::specs::Sum::pick))]
 fn unless_above(sum: usize, bound: usize, rule: SheetRule) -> Result<SheetRule, Refusal>
     ensures { result ≡ unless_above sum bound rule }
 {
@@ -61,7 +62,13 @@ fn unless_above(sum: usize, bound: usize, rule: SheetRule) -> Result<SheetRule, 
 }
 
 // The rule whose lists were read, with its weights, where its kind has weights, unless its need is above the sum of its weights.
-fn read_weighed(s: &[u8], kind: SheetKind, bound: usize, positive: Span, negated: Span) -> Result<SheetRule, Refusal>
+fn read_weighed(
+    s: &[u8],
+    kind: SheetKind,
+    bound: usize,
+    positive: Span,
+    negated: Span,
+) -> Result<SheetRule, Refusal>
     requires positive { positive.value ≤ number_most }
     requires negated { negated.value ≤ number_most }
     ensures { result ≡ unless_dead s.now bound (weighed_at s.now kind (need_for kind (positive.value + negated.value)) positive negated) }
@@ -92,6 +99,7 @@ fn read_weighed(s: &[u8], kind: SheetKind, bound: usize, positive: Span, negated
 }
 
 // The rule with this head part, whose body comes after it.
+#[tactic(auto, unfolding(crate::specs::Body::body_at, crate::specs::Body::unless_dead, numbers::specs::Answer::read_then))]
 pub(crate) fn read_body(s: &[u8], n: usize, head: HeadPart) -> Result<SheetRule, Refusal>
     ensures { result ≡ unless_dead s.now head.bound (body_at s.now n head.kind head.next) }
 {

@@ -8,6 +8,7 @@ use super::{HeadPart, SheetKind, SheetRule};
 use numbers::{Reason, Refusal, Span, read_list, read_number};
 use rules::{Atom, Kind};
 
+#[tactic(auto, unfolding(crate::specs::Inner::Head::choice_head, numbers::specs::Answer::read_then))]
 fn read_choice(s: &[u8], n: usize, at: usize) -> Result<HeadPart, Refusal>
     ensures { result ≡ choice_head s.now n at }
 {
@@ -31,6 +32,7 @@ fn bounded(weighs: bool, head: Atom, bound: usize) -> SheetKind
 }
 
 // The bound after a head.
+#[tactic(auto, unfolding(crate::specs::Inner::Head::bound_head, numbers::specs::Answer::read_then))]
 fn read_bounded(s: &[u8], weighs: bool, head: Atom, at: usize) -> Result<HeadPart, Refusal>
     ensures { result ≡ bound_head s.now weighs head at }
 {
@@ -43,6 +45,7 @@ fn read_bounded(s: &[u8], weighs: bool, head: Atom, at: usize) -> Result<HeadPar
 }
 
 // The head part of a kind with a single head.
+#[tactic(auto, unfolding(crate::specs::Inner::Head::single_head, crate::specs::Inner::Head::after_single, numbers::specs::Answer::read_then))]
 fn read_single(s: &[u8], n: usize, kind: Kind, at: usize) -> Result<HeadPart, Refusal>
     ensures { result ≡ single_head s.now n kind at }
 {
@@ -61,6 +64,7 @@ fn read_single(s: &[u8], n: usize, kind: Kind, at: usize) -> Result<HeadPart, Re
 }
 
 // The number of a rule's kind, and then its head part.
+#[tactic(auto, unfolding(crate::specs::Inner::Head::head_at, crate::specs::Inner::Head::kind_head, numbers::specs::Answer::read_then))]
 fn read_head(s: &[u8], n: usize, at: usize) -> Result<HeadPart, Refusal>
     ensures { result ≡ head_at s.now n at }
 {

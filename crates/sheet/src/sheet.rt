@@ -11,6 +11,7 @@ use rules::{Atom, RuleNo};
 pub const BYTES_MOST: usize = 65_536;
 
 // The edition, which is 1.
+#[tactic(auto, unfolding(crate::specs::Sheet::edition_at, numbers::specs::Answer::read_then, rules::specs::Sum::pick))]
 fn read_edition(s: &[u8]) -> Result<Span, Refusal>
     ensures { result ≡ edition_at s.now }
 {
@@ -25,6 +26,7 @@ fn read_edition(s: &[u8]) -> Result<Span, Refusal>
 }
 
 // The compute lists after the rules, and nothing more.
+#[tactic(auto, unfolding(crate::specs::Sheet::tail_at, numbers::specs::Answer::read_then, rules::specs::Sum::pick))]
 fn read_tail(s: &[u8], n: usize, rules: Span) -> Result<Outline, Refusal>
     ensures { result ≡ tail_at s.now n rules }
 {
@@ -42,6 +44,7 @@ fn read_tail(s: &[u8], n: usize, rules: Span) -> Result<Outline, Refusal>
 }
 
 // The rule count at a place, the rules, and what comes after them.
+#[tactic(auto, unfolding(crate::specs::Sheet::rest_at, rules::specs::Limits::rules_most, numbers::specs::Answer::read_then))]
 fn read_rest(s: &[u8], n: usize, at: usize) -> Result<Outline, Refusal>
     ensures { result ≡ rest_at s.now n at }
 {
@@ -51,6 +54,7 @@ fn read_rest(s: &[u8], n: usize, at: usize) -> Result<Outline, Refusal>
 }
 
 // The sheet in reading order.
+#[tactic(auto, unfolding(crate::specs::Sheet::whole_at, rules::specs::Limits::atoms_most, numbers::specs::Answer::read_then))]
 fn read_whole(s: &[u8]) -> Result<Outline, Refusal>
     ensures { result ≡ whole_at s.now }
 {
@@ -60,6 +64,7 @@ fn read_whole(s: &[u8]) -> Result<Outline, Refusal>
 }
 
 // A sheet: accepted, or its refusal.
+#[tactic(auto, unfolding(crate::specs::Sheet::sheet_read, rules::specs::Limits::bytes_most, rules::specs::Sum::pick))]
 pub fn read_sheet(s: &[u8]) -> Result<Outline, Refusal>
     ensures { result ≡ sheet_read s.now }
 {

@@ -46,7 +46,7 @@ module _ (s : List ℕ) (bound : ℕ) (positive negated : Span) where
   put :
       (kind : SheetKind) (x : Result SheetRule Refusal) (r : SheetRule) (sum : ℕ) → x ≡ unless_above sum bound r → sum ≡ weight_sum (rule_meant s r)
       → Ok r ≡ read kind → x ≡ unless_dead s bound (read kind)
-  unfolding unless_dead
+  unfolding unless_dead read_then
   put kind x r sum h e m = h ∙ ap (λ (k : ℕ). unless_above k bound r) e ∙ ap (unless_dead s bound) m
 
   plain_read :

@@ -23,7 +23,7 @@ use Rattle.sheet.specs.Body.{weight_at, weights_at, weights_due, need_for, weigh
 use Rattle.sheet.specs.Shown.Encode.{LightOne, Light}
 use Rattle.sheet.specs.declared.SheetKind.{SheetKind}
 use Rattle.sheet.specs.declared.SheetRule.{SheetRule}
-use Rattle.std.specs.Prelude.{Ok, Err}
+use Rattle.std.specs.Prelude.{Result, Ok, Err}
 
 weight_sound :
     (s : List ℕ) (before at : ℕ) (one : Span) → weight_at s before at ≡ Ok one → (number_at s at ≡ Ok one) × LightOne before one.value
@@ -79,14 +79,15 @@ body_ran s n kind at r e =
     made :
         (p q a b : Span) → list_at s 0 n at ≡ Ok p → list_at s 0 n p.next ≡ Ok q
         → weights_at s (weights_due kind p.value) q.next ≡ Ok a → weights_at s (weights_due kind q.value) a.next ≡ Ok b
-        → Ok (record {
+        → ◌≡◌ {A = Result SheetRule Refusal}
+        (Ok (record {
           kind = kind;
           need = need_for kind (p.value + q.value);
           positive = record { atoms = p; weights = a };
           negated = record { atoms = q; weights = b };
           next = b.next;
-        })
-        ≡ Ok r
+        }))
+        (Ok r)
         → BodyRan s n kind at r
     made p q a b hp hq ha hb z =
         subst (λ (t : SheetRule). BodyRan s n kind at t) (same_ok z)

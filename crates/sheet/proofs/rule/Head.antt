@@ -3,7 +3,7 @@
 use Prim.Native.Nat.{ℕ}
 use mathlib.Core.Path.{◌≡◌, refl, sym, ap, ◌∙◌}
 use mathlib.Core.List.{List}
-use Rattle.std.specs.Prelude.{ok_or, Result, Ok, Err}
+use Rattle.std.specs.Prelude.{true, false, ok_or, Result, Ok, Err}
 use Rattle.rules.specs.Rule.{checked_kind}
 use Rattle.rules.specs.declared.kind.Kind.{Kind}
 use Rattle.rules.specs.declared.kind.Kind.TheVariants.{Basic as basic, Constraint as constraint, Choice as choice, Weight as weight}
@@ -38,12 +38,12 @@ module _ (s : List ℕ) (n : ℕ) where
         (λ head. never_dead s n (Basic head) number.next number.next refl (λ length. refl)))
 
     constraint_after : body_after s n (single_head s n constraint at) ≡ bounded_at s n false at
-    unfolding single_head after_single bound_head bounded_at head_then
+    unfolding single_head after_single bound_head bounded_at head_then body_after read_then
     constraint_after = after_read (number_at s at) _ _ (λ number. after_read (ok_or (checked_atom n number.value) (refusal NoAtom at)) _ _
         (λ head. after_read (number_at s number.next) _ _ (λ bound. refl)))
 
     weight_after : body_after s n (single_head s n weight at) ≡ bounded_at s n true at
-    unfolding single_head after_single bound_head bounded_at head_then
+    unfolding single_head after_single bound_head bounded_at head_then body_after read_then
     weight_after = after_read (number_at s at) _ _ (λ number. after_read (ok_or (checked_atom n number.value) (refusal NoAtom at)) _ _
         (λ head. after_read (number_at s number.next) _ _ (λ bound. refl)))
 

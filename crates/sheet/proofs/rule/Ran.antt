@@ -1,6 +1,6 @@
 -- The parts of a rule that was read: the kind that its number names, and a head, which is an atom among n.
 use Prim.Native.Nat.{ℕ, ◌+◌, ◌≤◌}
-use mathlib.Core.Path.{◌≡◌, refl, sym, ap, subst, ◌∙◌}
+use mathlib.Core.Path.{◌≡◌, sym, ap, subst, ◌∙◌}
 use mathlib.Core.List.{List, [], ◌∷◌, flat_map, append-nil}
 use native.Mathlib.Omega.{arith}
 use Rattle.rules.specs.Rule.{Within, kind_number, checked_kind}

@@ -9,6 +9,7 @@ use lib.ListN.{length, drop, length-append}
 use borrow.Author.Tests.{lt-ltb}
 use Rattle.rules.specs.Limits.{number_most}
 use Rattle.rules.specs.Rule.{Rule, Weighted, Within, ones, basic_rule, constraint_rule, choice_rule, weight_rule, atoms_of, weights_of}
+use Rattle.rules.specs.declared.kind.Kind.TheVariants.{Basic as basic, Constraint as constraint, Choice as choice, Weight as weight}
 use Rattle.rules.specs.Sum.{pick}
 use Rattle.rules.specs.Stable.{weight_sum, Dead, Living}
 use Rattle.rules.specs.declared.Atom.{Atom}
@@ -22,7 +23,7 @@ use Rattle.numbers.specs.Shown.Encode.{number_bytes, numbers_bytes, list_bytes, 
 use Rattle.numbers.proofs.number.Encoded.{number_read, past}
 use Rattle.numbers.proofs.lists.Whole.{list_span, list_read, list_numbers, list_past_law}
 use Rattle.sheet.specs.Body.{need_for, body_at, unless_above, unless_dead}
-use Rattle.sheet.specs.Rule.{head_then, bounded, basic_at, bounded_at, choice_at, rule_at}
+use Rattle.sheet.specs.Rule.{head_then, bounded, basic_at, bounded_at, choice_at, kind_at, rule_at}
 use Rattle.sheet.specs.RuleMeaning.{paired, paired_in, rule_by, rule_meant}
 use Rattle.sheet.specs.Shown.Encode.{rule_bytes, before_bound, ProperRule, is_basic, is_constraint, is_choice, is_weight, Light}
 use Rattle.sheet.specs.declared.SheetKind.{SheetKind}
@@ -31,6 +32,7 @@ use Rattle.sheet.specs.declared.SheetRule.{SheetRule}
 use Rattle.sheet.proofs.body.Ran.{body_ran}
 use Rattle.sheet.proofs.body.Dead.{Lives, lives_on}
 use Rattle.sheet.proofs.body.Written.{BodyWritten, body_written}
+use Rattle.sheet.proofs.rule.KindNumber.{kind_made}
 use Rattle.sheet.proofs.rule.Apart.{plain_body, sizes, weigh_back}
 use Rattle.std.specs.Prelude.{Result, Ok, Err}
 use Rattle.numbers.specs.declared.Refusal.{Refusal}
@@ -54,7 +56,7 @@ module _ {s : List ℕ} {n at : ℕ} {m : Rule} {q : List ℕ} {r : SheetRule} (
   living_read l = w.reads ∙ lives_on s (at + before_bound m) (Ok r) r refl (lives s r w.means w.need l)
 
   pub dead_read : Dead m → rule_at s n at ≡ Err (refusal BoundTooHigh (at + before_bound m))
-  unfolding unless_dead unless_above pick
+  unfolding unless_dead read_then unless_above pick
   dead_read d =
       w.reads
       ∙ ap (λ (b : Bool). pick b (Err (refusal BoundTooHigh (at + before_bound m))) (Ok r))
@@ -111,7 +113,7 @@ module _ (s : List ℕ) (n at : ℕ) (m : n ≤ number_most) where
   basic_written :
       (h : ℕ) (xs ys q : List ℕ) → Within n h → Rising n xs → Rising n ys → drop at s ≡ rule_bytes (basic_rule h xs ys) ++ q
       → (r : SheetRule) × RuleWritten s n at (basic_rule h xs ys) q r
-  unfolding rule_bytes rule_at basic_at read_then pick rule_meant flat_map number_most
+  unfolding rule_bytes rule_at kind_at basic_at read_then rule_meant flat_map number_most
   basic_written h xs ys q w rx ry d =
       let x : List ℕ = (list_bytes xs ++ list_bytes ys) ++ q in
       let d₁ : drop at s ≡ number_bytes 1 ++ (number_bytes h ++ x) =
@@ -124,7 +126,7 @@ module _ (s : List ℕ) (n at : ℕ) (m : n ≤ number_most) where
       let b = body_written s n (Basic (numbered h)) a₂ xs ys [] [] q m rx ry none none refl refl (past s (number_bytes h) x a₁ d₂) in (
         b.0,
         plainly (basic_rule h xs ys) q b.0
-            (simp (number_read s at 1 _ (omega arith) d₁, head_read s n a₁ h x (λ head next. body_at s n (Basic head) next) m w d₂, b.1.reads))
+            (simp (number_read s at 1 _ (omega arith) d₁, kind_made basic, head_read s n a₁ h x (λ head next. body_at s n (Basic head) next) m w d₂, b.1.reads))
             (by_kind b.1 ∙ by_lists b.1 (λ us vs. basic_rule h us vs))
             (needed b.1)
             (length_living (basic_rule h xs ys) xs ys refl refl refl)
@@ -144,7 +146,7 @@ module _ (s : List ℕ) (n at : ℕ) (m : n ≤ number_most) where
   choice_written :
       (hs xs ys q : List ℕ) → 1 ≤ length hs → Rising n hs → Rising n xs → Rising n ys → drop at s ≡ rule_bytes (choice_rule hs xs ys) ++ q
       → (r : SheetRule) × RuleWritten s n at (choice_rule hs xs ys) q r
-  unfolding rule_bytes rule_at choice_at read_then pick rule_meant flat_map number_most
+  unfolding rule_bytes rule_at kind_at choice_at read_then rule_meant flat_map number_most
   choice_written hs xs ys q o rh rx ry d =
       let x : List ℕ = (list_bytes xs ++ list_bytes ys) ++ q in
       let d₁ : drop at s ≡ number_bytes 3 ++ (list_bytes hs ++ x) =
@@ -159,7 +161,7 @@ module _ (s : List ℕ) (n at : ℕ) (m : n ≤ number_most) where
       (list_past_law s 1 n a₁ hs x m rh d₂) in (
         b.0,
         plainly (choice_rule hs xs ys) q b.0
-            (simp (number_read s at 3 _ (omega arith) d₁, list_read s 1 n a₁ hs x m rh d₂ o, b.1.reads))
+            (simp (number_read s at 3 _ (omega arith) d₁, kind_made choice, list_read s 1 n a₁ hs x m rh d₂ o, b.1.reads))
             (by_kind b.1
             ∙ by_lists b.1 (λ us vs. choice_rule (numbers_of s (list_span a₁ hs)) us vs)
             ∙ ap (λ (us : List ℕ). choice_rule us xs ys) (list_numbers s 1 n a₁ hs x m rh d₂))
@@ -217,7 +219,7 @@ module _ (s : List ℕ) (n at : ℕ) (m : n ≤ number_most) where
   constraint_written :
       (h k : ℕ) (xs ys q : List ℕ) → Within n h → k ≤ number_most → Rising n xs → Rising n ys
       → drop at s ≡ rule_bytes (constraint_rule h k xs ys) ++ q → (r : SheetRule) × RuleWritten s n at (constraint_rule h k xs ys) q r
-  unfolding rule_bytes rule_at read_then pick rule_meant flat_map number_most
+  unfolding rule_bytes rule_at kind_at read_then rule_meant flat_map number_most
   constraint_written h k xs ys q w mk rx ry d =
       let lists : List ℕ = list_bytes (atoms_of (ones xs)) ++ list_bytes (atoms_of (ones ys)) in
       let g = bound_written false 2 h k lists q (omega arith) w mk d in
@@ -226,7 +228,7 @@ module _ (s : List ℕ) (n at : ℕ) (m : n ≤ number_most) where
       (g.rest ∙ plain_body xs ys q) in (
         b.0,
         record {
-          reads = simp (g.kind, g.bound, b.1.reads);
+          reads = simp (g.kind, kind_made constraint, g.bound, b.1.reads);
           means = by_kind b.1 ∙ by_lists b.1 (λ us vs. constraint_rule h k us vs);
           need = needed b.1;
           rest = b.1.rest;
@@ -237,7 +239,7 @@ module _ (s : List ℕ) (n at : ℕ) (m : n ≤ number_most) where
       (h k : ℕ) (xs ys : List Weighted) (q : List ℕ) → Within n h → k ≤ number_most → Rising n (atoms_of xs) → Rising n (atoms_of ys)
       → Light (weights_of xs) → Light (weights_of ys) → drop at s ≡ rule_bytes (weight_rule h k xs ys) ++ q
       → (r : SheetRule) × RuleWritten s n at (weight_rule h k xs ys) q r
-  unfolding rule_bytes rule_at read_then pick rule_meant number_most
+  unfolding rule_bytes rule_at kind_at read_then rule_meant number_most
   weight_written h k xs ys q w mk rx ry lx ly d =
       let lists : List ℕ = list_bytes (atoms_of xs) ++ list_bytes (atoms_of ys) in
       let weights : List ℕ = numbers_bytes (weights_of xs) ++ numbers_bytes (weights_of ys) in
@@ -249,7 +251,7 @@ module _ (s : List ℕ) (n at : ℕ) (m : n ≤ number_most) where
       (g.rest ∙ append_assoc lists weights q) in (
         b.0,
         record {
-          reads = simp (g.kind, g.bound, b.1.reads);
+          reads = simp (g.kind, kind_made weight, g.bound, b.1.reads);
           means = by_kind b.1 ∙ weighed_back b.1 (λ us vs. weight_rule h k us vs) xs ys refl refl refl refl;
           need = needed b.1;
           rest = b.1.rest;

@@ -12,6 +12,7 @@ use Rattle.numbers.specs.Answer.{refusal, read_then, span}
 use Rattle.numbers.specs.declared.reason.Reason.TheVariants.{BoundTooHigh}
 use Rattle.numbers.specs.Lists.{in_turn, up_to}
 use Rattle.numbers.specs.declared.Refusal.{Refusal}
+use Rattle.sheet.specs.declared.Outline.{Outline}
 use Rattle.numbers.specs.declared.Span.{Span}
 use Rattle.numbers.proofs.Answer.{one_left}
 use Rattle.sheet.specs.Rule.{rule_step, rules_at}

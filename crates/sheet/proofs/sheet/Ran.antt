@@ -26,13 +26,7 @@ use Rattle.sheet.specs.Meaning.{rules_from, sheet_meant}
 use Rattle.sheet.specs.Shown.Encode.{rules_bytes, encode, AllLiving, WellFormed, ProperRules, rules_size}
 use Rattle.sheet.specs.declared.Outline.{Outline}
 use Rattle.sheet.proofs.sheet.Rules.{rules_ran}
-use Rattle.std.specs.Prelude.{Ok, Err}
-
-pub not_accepted : {o : Outline} (why : Refusal) → Err why ≡ Ok o → ⊥
-not_accepted why e = let z : ◌≡◌ {A = ℕ} 0 1 = cc in omega arith
-
-pub same_outline : {o t : Outline} → Ok o ≡ Ok t → o ≡ t
-same_outline e = cc
+use Rattle.std.specs.Prelude.{Result, Ok, Err}
 
 -- the parts of an accepted sheet
 pub record SheetParts (s : List ℕ) (o : Outline) : Type 0 where
@@ -52,16 +46,17 @@ pub record SheetParts (s : List ℕ) (o : Outline) : Type 0 where
 pub parts : (s : List ℕ) (o : Outline) → sheet_read s ≡ Ok o → SheetParts s o
 unfolding sheet_read whole_at edition_at rest_at tail_at
 parts s o e =
-    let b = from_no (ltb bytes_most (length s)) _ _ (not_accepted _) e in
+    let b = from_no (ltb bytes_most (length s)) _ _ (not_ok _) e in
     whole (ltb-false bytes_most (length s) b.0) b.1
   where
     made :
         (d a c r i u : Span) → (number_at s 0 ≡ Ok d) × (d.value ≡ 1) → within_at s 0 atoms_most d.next ≡ Ok a
         → within_at s 0 rules_most a.next ≡ Ok c → rules_at s a.value c.value c.next ≡ Ok r
         → list_at s 0 a.value r.next ≡ Ok i → list_at s 0 a.value i.next ≡ Ok u → length s ≤ u.next
-        → length s ≤ bytes_most → Ok (record { atoms = a.value; rules = r; ins = i; outs = u }) ≡ Ok o → SheetParts s o
+        → length s ≤ bytes_most
+        → ◌≡◌ {A = Result Outline Refusal} (Ok (record { atoms = a.value; rules = r; ins = i; outs = u })) (Ok o) → SheetParts s o
     made d a c r i u hd ha hc hr hi hu hl hb z =
-        subst (λ (t : Outline). SheetParts s t) (same_outline z)
+        subst (λ (t : Outline). SheetParts s t) (same_ok z)
         (record {
           edition = d;
           first = hd;
@@ -82,17 +77,17 @@ parts s o e =
         → within_at s 0 rules_most a.next ≡ Ok c → rules_at s a.value c.value c.next ≡ Ok r → length s ≤ bytes_most
         → tail_at s a.value r ≡ Ok o → SheetParts s o
     tail d a c r hd ha hc hr hb z =
-        let i = from_read Err _ (list_at s 0 a.value r.next) not_accepted z in
-        let u = from_read Err _ (list_at s 0 a.value i.0.next) not_accepted i.2 in
-        let l = from_no (ltb u.0.next (length s)) _ _ (not_accepted _) u.2 in
+        let i = from_read Err _ (list_at s 0 a.value r.next) not_ok z in
+        let u = from_read Err _ (list_at s 0 a.value i.0.next) not_ok i.2 in
+        let l = from_no (ltb u.0.next (length s)) _ _ (not_ok _) u.2 in
         made d a c r i.0 u.0 hd ha hc hr i.1 u.1 (ltb-false u.0.next (length s) l.0) hb l.1
 
     rest :
         (d a : Span) → (number_at s 0 ≡ Ok d) × (d.value ≡ 1) → within_at s 0 atoms_most d.next ≡ Ok a → length s ≤ bytes_most
         → rest_at s a.value a.next ≡ Ok o → SheetParts s o
     rest d a hd ha hb z =
-        let c = from_read Err _ (within_at s 0 rules_most a.next) not_accepted z in
-        let r = from_read Err _ (rules_at s a.value c.0.value c.0.next) not_accepted c.2 in
+        let c = from_read Err _ (within_at s 0 rules_most a.next) not_ok z in
+        let r = from_read Err _ (rules_at s a.value c.0.value c.0.next) not_ok c.2 in
         tail d a c.0 r.0 hd ha c.1 r.1 hb r.2
 
     edition_is : (d : Span) → edition_at s ≡ Ok d → (number_at s 0 ≡ Ok d) × (d.value ≡ 1)
@@ -104,8 +99,8 @@ parts s o e =
 
     whole : length s ≤ bytes_most → whole_at s ≡ Ok o → SheetParts s o
     whole hb z =
-        let d = from_read Err _ (edition_at s) not_accepted z in
-        let a = from_read Err _ (within_at s 0 atoms_most d.0.next) not_accepted d.2 in
+        let d = from_read Err _ (edition_at s) not_ok z in
+        let a = from_read Err _ (within_at s 0 atoms_most d.0.next) not_ok d.2 in
         rest d.0 a.0 (edition_is d.0 d.1) a.1 hb a.2
 
 -- an accepted sheet, and what it says
