@@ -1,12 +1,12 @@
 -- The gates of the calls: what each has tested where it lets its call go on, and where it does.
 use Prim.Native.Nat.{ℕ, ◌≤◌}
 use mathlib.Core.Path.{◌≡◌, refl, ap, ◌∙◌}
-use mathlib.Core.Bool.{Bool, true, false, not}
+use mathlib.Core.Bool.{Bool, true, false, not, true≢false}
 use mathlib.Core.List.{List, [], ◌∷◌}
 use native.Mathlib.Omega.{arith}
 use lib.ListN.{length}
 use borrow.Author.Tests.{le-ltb, ltb-false}
-use Rattle.std.specs.Prelude.{Result, Ok, Err}
+use Rattle.std.specs.Prelude.{Ok, Err}
 use Rattle.rules.specs.Rule.{Within}
 use Rattle.rules.specs.Map.{Whole, inside}
 use Rattle.rules.specs.Inner.Bytes.{Room}
@@ -17,9 +17,9 @@ use Rattle.numbers.specs.declared.Refusal.{Refusal}
 use Rattle.numbers.specs.declared.reason.Reason.TheVariants.{BadPin}
 use Rattle.sheet.specs.Sheet.{sheet_read}
 use Rattle.sheet.specs.declared.Outline.{Outline}
-use Rattle.gate.specs.Scan.{map_fault, model_fault}
+use Rattle.gate.specs.Scan.{map_fault}
 use Rattle.gate.specs.Gate.{Test, stop_if, room, is_pin, no_fault, gate, tested, room_gate, test_gate, pin_gate, margin_gate, part_gate}
-use Rattle.gate.proofs.Tests.{not_stopped, no_stop, stops, gate_goes, sheet_passes, test_passes, test_stops}
+use Rattle.gate.proofs.Tests.{not_stopped, no_stop, stops, gate_goes, sheet_passes, test_passes, test_stops, all_tested}
 use Rattle.gate.proofs.scan.Maps.{model_fine}
 
 -- the sheet was accepted, and the lent map is long enough
@@ -39,7 +39,7 @@ passed_not b why e = by b (not_stopped (not b) why e)
   where
     by : (x : Bool) → not x ≡ false → x ≡ true
     by true h = refl
-    by false h = absurd (true-false h)
+    by false h = absurd (true≢false h)
 
 room_passed : (n : ℕ) (m : List ℕ) → room n m ≡ Ok tt → Room n m
 room_passed n m e = ltb-false (length m) n (not_stopped _ _ e)
@@ -53,16 +53,16 @@ inside_passed n k why e = inside_within n k (true_T (passed_not _ why e))
 module _ (s : List ℕ) {o : Outline} where
   module _ (m : List ℕ) where
     pub room_goes : room_gate s m ≡ Ok o → Lent s m o
-    room_goes e = let (read, room, _) = gate_goes s _ e in record { accepted = read; room = room_passed o.atoms m room }
+    room_goes e = let (read, (room, _)) = gate_goes s _ e in record { accepted = read; room = room_passed o.atoms m room }
 
     pub test_goes : test_gate s m ≡ Ok o → Lent s m o × Whole o.atoms m
     test_goes e =
-        let (read, room, fine, _) = gate_goes s _ e in
+        let (read, (room, (fine, _))) = gate_goes s _ e in
         (record { accepted = read; room = room_passed o.atoms m room }, model_fine o.atoms m (fault_passed _ _ fine))
 
     pub pin_through : (a v : ℕ) → pin_gate s m a v ≡ Ok o → Through s m a v o
     pin_through a v e =
-        let (read, room, pin, fine, _) = gate_goes s _ e in
+        let (read, (room, (pin, (fine, _)))) = gate_goes s _ e in
         let t = true_T (passed_not (is_pin o.atoms a v) _ pin) in
         record {
           lent = record { accepted = read; room = room_passed o.atoms m room };
@@ -73,11 +73,11 @@ module _ (s : List ℕ) {o : Outline} where
 
     pub margin_through : (k : ℕ) → margin_gate s m k ≡ Ok o → Within o.rules.value k × Lent s m o
     margin_through k e =
-        let (read, room, rule, _) = gate_goes s _ e in
+        let (read, (room, (rule, _))) = gate_goes s _ e in
         (inside_passed o.rules.value k _ rule, record { accepted = read; room = room_passed o.atoms m room })
 
   pub part_through : (k : ℕ) → part_gate s k ≡ Ok o → Within o.rules.value k × (sheet_read s ≡ Ok o)
-  part_through k e = let (read, rule, _) = gate_goes s _ e in (inside_passed o.rules.value k _ rule, read)
+  part_through k e = let (read, (rule, _)) = gate_goes s _ e in (inside_passed o.rules.value k _ rule, read)
 
 -- The other way: the gate of an accepted sheet and a map that is long enough goes by its other tests.
 module _ {s m : List ℕ} {o : Outline} (lent : Lent s m o) where
@@ -85,7 +85,7 @@ module _ {s m : List ℕ} {o : Outline} (lent : Lent s m o) where
   has_room = no_stop _ _ (le-ltb (length m) o.atoms lent.room)
 
   pub lent_through : (tests : Outline → List Test) → gate s (λ y. room y.atoms m ∷ tests y) ≡ tested (tests o) o
-  lent_through tests = sheet_passes lent.accepted (test_passes has_room refl)
+  lent_through tests = sheet_passes s _ lent.accepted (test_passes _ _ o has_room refl)
 
   pub room_through : room_gate s m ≡ Ok o
   unfolding tested
@@ -94,12 +94,10 @@ module _ {s m : List ℕ} {o : Outline} (lent : Lent s m o) where
   module _ (a v : ℕ) where
     -- a pin on a map without a fault
     pub pins_through : is_pin o.atoms a v ≡ true → map_fault o.atoms m ≡ o.atoms → pin_gate s m a v ≡ Ok o
-    unfolding tested
     pins_through b e =
         lent_through _
-        ∙ test_passes (no_stop _ _ (ap not b))
-        (test_passes (no_stop _ _ (le-ltb (map_fault o.atoms m) o.atoms (omega (arith, e)))) refl)
+        ∙ all_tested _ o (no_stop _ _ (ap not b), (no_stop _ _ (le-ltb (map_fault o.atoms m) o.atoms (omega (arith, e))), tt))
 
     -- 11
     pub pins_barred : is_pin o.atoms a v ≡ false → pin_gate s m a v ≡ Err (refusal BadPin 0)
-    pins_barred b = lent_through _ ∙ test_stops (stops _ _ (ap not b))
+    pins_barred b = lent_through _ ∙ test_stops _ _ o (stops _ _ (ap not b))

@@ -36,14 +36,13 @@ AllPlaced [] = Unit
 AllPlaced (t ∷ ts) = TestPlaced t × AllPlaced ts
 
 tested_small : (ts : List Test) (o : Outline) → o.atoms ≤ atoms_most → AllPlaced ts → StopsPlaced (tested ts o)
-unfolding tested
+unfolding tested read_then
 tested_small [] o few a = few
-tested_small (t ∷ ts) o few a = by t a.0
+tested_small (t ∷ ts) o few a = by t a.0 (tested_small ts o few a.1)
   where
-    by : (x : Test) → TestPlaced x → StopsPlaced (read_then Err x (λ _. tested ts o))
-    unfolding read_then
-    by (Err why) p = p
-    by (Ok u) p = tested_small ts o few a.1
+    by : (x : Test) → TestPlaced x → StopsPlaced (tested ts o) → StopsPlaced (read_then Err x (λ _. tested ts o))
+    by (Err why) p rest = p
+    by (Ok u) p rest = rest
 
 pub checks_small : (s : List ℕ) → StopsPlaced (sheet_read s)
 unfolding sheet_meant
@@ -54,11 +53,10 @@ checks_small s = by (sheet_read s) refl
     by (Ok o) e = (sheet_ran s o e).well_formed.atoms
 
 gate_small : (s : List ℕ) (tests : Outline → List Test) → ((o : Outline) → o.atoms ≤ atoms_most → AllPlaced (tests o)) → StopsPlaced (gate s tests)
-unfolding gate
+unfolding gate read_then
 gate_small s tests f = by (sheet_read s) (checks_small s)
   where
     by : (r : Result Outline Refusal) → StopsPlaced r → StopsPlaced (read_then Err r (λ o. tested (tests o) o))
-    unfolding read_then
     by (Err why) p = p
     by (Ok o) few = tested_small (tests o) o few (f o few)
 
@@ -82,10 +80,10 @@ module _ (s : List ℕ) where
     rooms_small = gate_small s _ (λ o few. (at_start _ _, tt))
 
     pub tests_small : StopsPlaced (test_gate s m)
-    tests_small = gate_small s _ (λ o few. (at_start _ _, at_fault _ _ few, tt))
+    tests_small = gate_small s _ (λ o few. (at_start _ _, (at_fault _ _ few, tt)))
 
     pub pins_small : (a v : ℕ) → StopsPlaced (pin_gate s m a v)
-    pins_small a v = gate_small s _ (λ o few. (at_start _ _, at_start _ _, at_fault _ _ few, tt))
+    pins_small a v = gate_small s _ (λ o few. (at_start _ _, (at_start _ _, (at_fault _ _ few, tt))))
 
     pub margins_small : (k : ℕ) → StopsPlaced (margin_gate s m k)
-    margins_small k = gate_small s _ (λ o few. (at_start _ _, at_start _ _, at_fault _ _ few, at_start _ _, tt))
+    margins_small k = gate_small s _ (λ o few. (at_start _ _, (at_start _ _, (at_fault _ _ few, (at_start _ _, tt)))))

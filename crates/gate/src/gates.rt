@@ -10,6 +10,7 @@ use rules::RuleNo;
 use sheet::{Outline, read_sheet};
 
 // The gate of a call that writes the map and does not read it.
+#[tactic(auto, unfolding(crate::specs::Gate::gate, crate::specs::Gate::tested, numbers::specs::Answer::read_then))]
 pub fn room_gate(s: &[u8], m: &[u8]) -> Result<Outline, Refusal>
     ensures { result ≡ room_gate s.now m.now }
 {
@@ -18,21 +19,19 @@ pub fn room_gate(s: &[u8], m: &[u8]) -> Result<Outline, Refusal>
     Ok(sheet)
 }
 
+#[tactic(auto, unfolding(crate::specs::Gate::gate, crate::specs::Gate::tested, numbers::specs::Answer::read_then))]
 pub fn test_gate(s: &[u8], m: &[u8]) -> Result<Outline, Refusal>
     ensures { result ≡ test_gate s.now m.now }
 {
     let sheet = read_sheet(s)?;
-    room(sheet.atoms, m)?;
-    model_bytes(sheet.atoms, m)?;
+    let n = sheet.atoms;
+    room(n, m)?;
+    model_bytes(n, m)?;
     Ok(sheet)
 }
 
-pub fn pin_gate(
-    s: &[u8],
-    m: &[u8],
-    atom: usize,
-    side: usize,
-) -> Result<(Outline, Pin), Refusal>
+#[tactic(auto, unfolding(crate::specs::Gate::gate, crate::specs::Gate::tested, crate::specs::Gate::beside, crate::specs::Gate::then_give, numbers::specs::Answer::read_then))]
+pub fn pin_gate(s: &[u8], m: &[u8], atom: usize, side: usize) -> Result<(Outline, Pin), Refusal>
     ensures { result ≡ with_pin atom side (pin_gate s.now m.now atom side) }
 {
     let sheet = read_sheet(s)?;
@@ -42,21 +41,23 @@ pub fn pin_gate(
     Ok((sheet, pinned))
 }
 
+#[tactic(auto, unfolding(crate::specs::Gate::gate, crate::specs::Gate::tested, crate::specs::Gate::beside, crate::specs::Gate::then_give, numbers::specs::Answer::read_then))]
 pub fn margin_gate(s: &[u8], m: &[u8], number: usize) -> Result<(Outline, RuleNo), Refusal>
     ensures { result ≡ with_rule number (margin_gate s.now m.now number) }
 {
     let sheet = read_sheet(s)?;
     room(sheet.atoms, m)?;
     let asked = rule(sheet.rules.value, number)?;
-    map_bytes(sheet.atoms, m)?;
-    no_contradiction(sheet.atoms, m)?;
+    let n = sheet.atoms;
+    map_bytes(n, m)?;
+    no_contradiction(n, m)?;
     Ok((sheet, asked))
 }
 
+#[tactic(auto, unfolding(crate::specs::Gate::gate, crate::specs::Gate::tested, crate::specs::Gate::beside, crate::specs::Gate::then_give, numbers::specs::Answer::read_then))]
 pub fn part_gate(s: &[u8], number: usize) -> Result<(Outline, RuleNo), Refusal>
     ensures { result ≡ with_rule number (part_gate s.now number) }
 {
     let sheet = read_sheet(s)?;
-    let asked = rule(sheet.rules.value, number)?;
-    Ok((sheet, asked))
+    Ok((sheet, rule(sheet.rules.value, number)?))
 }

@@ -8,6 +8,12 @@ fn byte_at(m: &[u8], i: usize) -> u8
     m.get(i).copied().unwrap_or(0)
 }
 
+fn is_between(low: u8, high: u8, b: u8) -> bool
+    ensures { result ≡ between low high b }
+{
+    (low..=high).contains(&b)
+}
+
 // The first of n bytes that is not from low to high, or n: a check of the whole map, from which the place is handed out. The labelled loop that
 // yields it by break is the form that the scope paper names for this place.
 fn first_fault(m: &[u8], n: usize, low: u8, high: u8) -> usize
@@ -19,7 +25,7 @@ fn first_fault(m: &[u8], n: usize, low: u8, high: u8) -> usize
             if n <= i {
                 break 'whole n;
             }
-            if (low..=high).contains(&byte_at(m, i)) {
+            if is_between(low, high, byte_at(m, i)) {
                 i += 1;
             } else {
                 break i;

@@ -8,6 +8,7 @@ use numbers::{Reason, Refusal};
 use rules::{Atom, RuleNo};
 
 // 10: "map shorter than n".
+#[tactic(auto, unfolding(crate::specs::Gate::stop_if, rules::specs::Sum::pick))]
 pub fn room(n: usize, m: &[u8]) -> Result<(), Refusal>
     ensures { result ≡ room n m.now }
 {
@@ -18,6 +19,7 @@ pub fn room(n: usize, m: &[u8]) -> Result<(), Refusal>
 }
 
 // 11: "pinned atom 0 or above n, or side not 1 or 2".
+#[tactic(auto, unfolding(crate::specs::Gate::stop_if, rules::specs::Sum::pick, crate::specs::Gate::then_give, numbers::specs::Answer::read_then, rules::specs::Number::checked_atom))]
 pub(crate) fn pin(n: usize, atom: usize, side: usize) -> Result<Pin, Refusal>
     ensures { result ≡ then_give (pin_of atom side) (pin n atom side) }
 {
@@ -25,12 +27,16 @@ pub(crate) fn pin(n: usize, atom: usize, side: usize) -> Result<Pin, Refusal>
     let atom = Atom::checked(atom, n).ok_or(barred)?;
     match side {
         1 => Ok(Pin { atom, inside: true }),
-        2 => Ok(Pin { atom, inside: false }),
+        2 => Ok(Pin {
+            atom,
+            inside: false,
+        }),
         _ => Err(barred),
     }
 }
 
 // 13: "rule number 0 or above the rule count".
+#[tactic(auto, unfolding(crate::specs::Gate::stop_if, rules::specs::Sum::pick, crate::specs::Gate::then_give, numbers::specs::Answer::read_then, rules::specs::Number::checked_rule))]
 pub(crate) fn rule(count: usize, number: usize) -> Result<RuleNo, Refusal>
     ensures { result ≡ then_give (rule_of number) (rule count number) }
 {
@@ -38,6 +44,7 @@ pub(crate) fn rule(count: usize, number: usize) -> Result<RuleNo, Refusal>
 }
 
 // 12: "map byte not allowed".
+#[tactic(auto, unfolding(crate::specs::Gate::stop_if, rules::specs::Sum::pick))]
 pub(crate) fn map_bytes(n: usize, m: &[u8]) -> Result<(), Refusal>
     ensures { result ≡ map_bytes n m.now }
 {
@@ -49,6 +56,7 @@ pub(crate) fn map_bytes(n: usize, m: &[u8]) -> Result<(), Refusal>
 }
 
 // 12 of a map of 1s and 2s.
+#[tactic(auto, unfolding(crate::specs::Gate::stop_if, rules::specs::Sum::pick))]
 pub fn model_bytes(n: usize, m: &[u8]) -> Result<(), Refusal>
     ensures { result ≡ model_bytes n m.now }
 {
@@ -60,6 +68,7 @@ pub fn model_bytes(n: usize, m: &[u8]) -> Result<(), Refusal>
 }
 
 // 14: "margin asked on a contradiction".
+#[tactic(auto, unfolding(crate::specs::Gate::stop_if, rules::specs::Sum::pick))]
 pub(crate) fn no_contradiction(n: usize, m: &[u8]) -> Result<(), Refusal>
     ensures { result ≡ no_contradiction n m.now }
 {
