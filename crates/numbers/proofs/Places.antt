@@ -31,10 +31,14 @@ pub record Placed (last : ℕ) (why : Refusal) : Type 0 where
 pub placed : {last : ℕ} (reason : Reason) (place : ℕ) → place ≤ last → Placed last (refusal reason place)
 placed reason place l = record { number = (reason_numbered reason).1; place = l }
 
+-- an answer whose value is as it should be, or a refusal at a place up to the last
+pub data Tame {V : Type 0} (last : ℕ) (Good : V → Type 0) : Result V Refusal → Type 0 where
+  gets : (v : V) → Good v → Tame last Good (Ok v)
+  refuses : (why : Refusal) → Placed last why → Tame last Good (Err why)
+
 -- an answer of a reader that stays within the bytes
-pub data Tame (s : List ℕ) : Result Span Refusal → Type 0 where
-  gets : (p : Span) → p.next ≤ length s → Tame s (Ok p)
-  refuses : (why : Refusal) → Placed (length s) why → Tame s (Err why)
+abbrev pub TameRead : List ℕ → Result Span Refusal → Type 0
+TameRead s a = Tame (length s) (λ (p : Span). p.next ≤ length s) a
 
 -- What is so of both ways of a test is so of the test's answer; and so for a part, an atom, and what comes after them.
 pub pick_so : {A : Type 0} (P : A → Type 0) (b : Bool) (x y : A) → (b ≡ true → P x) → (b ≡ false → P y) → P (pick b x y)
@@ -42,24 +46,24 @@ unfolding pick
 pick_so P true x y yea nay = yea refl
 pick_so P false x y yea nay = nay refl
 
-pub read_so :
-    {A : Type 0} (P : A → Type 0) {s : List ℕ} {a : Result Span Refusal} (up : Refusal → A) (next : Span → A) → Tame s a
-    → ((why : Refusal) → Placed (length s) why → P (up why)) → ((p : Span) → p.next ≤ length s → P (next p))
-    → P (read_then up a next)
-unfolding read_then
-read_so P up next (gets p l) bad good = good p l
-read_so P up next (refuses why w) bad good = bad why w
+module _ {V W : Type 0} {last : ℕ} {Fine : W → Type 0} where
+  pub then_tame :
+      {Good : V → Type 0} {a : Result V Refusal} {next : V → Result W Refusal} → Tame last Good a
+      → ((v : V) → Good v → Tame last Fine (next v)) → Tame last Fine (read_then Err a next)
+  unfolding read_then
+  then_tame (gets v l) good = good v l
+  then_tame (refuses why w) good = refuses why w
 
-pub some_so :
-    {V A : Type 0} (P : A → Type 0) (up : Refusal → A) (next : V → A) (why : Refusal) (o : Option V) → P (up why)
-    → ((v : V) → P (next v)) → P (read_then up (ok_or o why) next)
-unfolding read_then
-some_so P up next why (Some v) bad good = good v
-some_so P up next why None bad good = bad
+  pub some_tame :
+      {next : V → Result W Refusal} {why : Refusal} (o : Option V) → Placed last why → ((v : V) → Tame last Fine (next v))
+      → Tame last Fine (read_then Err (ok_or o why) next)
+  unfolding read_then
+  some_tame (Some v) w good = good v
+  some_tame {why = why} None w good = refuses why w
 
 module _ (s : List ℕ) where
   module _ (at : ℕ) (h : at ≤ length s) where
-    pub number_tame : Tame s (number_at s at)
+    pub number_tame : TameRead s (number_at s at)
     number_tame = by (number_at s at) refl
       where
         said : (why : Refusal) → NumberRefused s at why → Placed (length s) why
@@ -67,41 +71,41 @@ module _ (s : List ℕ) where
         said why (padded count some few runs l o) = placed NotShortest at h
         said why (large runs) = placed FourthByte at h
 
-        by : (a : Result Span Refusal) → number_at s at ≡ a → Tame s a
+        by : (a : Result Span Refusal) → number_at s at ≡ a → TameRead s a
         by (Ok p) e = gets p (number_far s at p e).1
         by (Err why) e = refuses why (said why (refused_why s at why e))
 
-    pub within_tame : (least most : ℕ) → Tame s (within_at s least most at)
+    pub within_tame : (least most : ℕ) → TameRead s (within_at s least most at)
     unfolding within_at
     within_tame least most =
-        read_so (Tame s) Err _ number_tame refuses
-        (λ number k. pick_so (Tame s) (ltb number.value least) _ _ (λ b. outside)
-        (λ b. pick_so (Tame s) (ltb most number.value) _ _ (λ c. outside) (λ c. gets number k)))
+        then_tame number_tame
+        (λ number k. pick_so (TameRead s) (ltb number.value least) _ _ (λ b. outside)
+        (λ b. pick_so (TameRead s) (ltb most number.value) _ _ (λ c. outside) (λ c. gets number k)))
       where
-        outside : Tame s (Err (refusal OutsideLimits at))
+        outside : TameRead s (Err (refusal OutsideLimits at))
         outside = refuses _ (placed OutsideLimits at h)
 
-    atom_tame : (n above : ℕ) → Tame s (atom_at s n above at)
+    atom_tame : (n above : ℕ) → TameRead s (atom_at s n above at)
     unfolding atom_at
     atom_tame n above =
-        read_so (Tame s) Err _ number_tame refuses
-        (λ number k. some_so (Tame s) Err _ _ (checked_atom n number.value) (refuses _ (placed NoAtom at h))
-        (λ atom. pick_so (Tame s) (leb atom.number above) _ _
+        then_tame number_tame
+        (λ number k. some_tame (checked_atom n number.value) (placed NoAtom at h)
+        (λ atom. pick_so (TameRead s) (leb atom.number above) _ _
         (λ b. refuses _ (placed NotIncreasing at h))
         (λ b. gets number k)))
 
   -- a run of steps, each of which stays within the bytes
   pub run_tame :
-      (step : ℕ → ℕ → Result Span Refusal) → ((before at : ℕ) → at ≤ length s → Tame s (step before at)) → (left before : ℕ) (done : Span)
-      → done.next ≤ length s → Tame s (in_turn step left before done)
+      (step : ℕ → ℕ → Result Span Refusal) → ((before at : ℕ) → at ≤ length s → TameRead s (step before at)) → (left before : ℕ) (done : Span)
+      → done.next ≤ length s → TameRead s (in_turn step left before done)
   unfolding in_turn
   run_tame step tame zero before done h = gets done h
   run_tame step tame (suc left) before done h =
-      read_so (Tame s) Err _ (tame before done.next h) refuses
+      then_tame (tame before done.next h)
       (λ one k. run_tame step tame left one.value (up_to done one.next) k)
 
-  pub list_tame : (least n at : ℕ) → at ≤ length s → Tame s (list_at s least n at)
+  pub list_tame : (least n at : ℕ) → at ≤ length s → TameRead s (list_at s least n at)
   unfolding list_at
   list_tame least n at h =
-      read_so (Tame s) Err _ (within_tame at h least n) refuses
+      then_tame (within_tame at h least n)
       (λ count k. run_tame (atom_at s n) (λ before at l. atom_tame at l n before) count.value 0 _ k)

@@ -10,6 +10,7 @@ use super::{Reason, Refusal, Span};
 use rules::Atom;
 
 // The atom at a place, one of 1 to n and above the atom before it.
+#[tactic(auto, unfolding(crate::specs::Lists::atom_at, crate::specs::Answer::read_then, rules::specs::Sum::pick))]
 pub fn read_atom(s: &[u8], n: usize, above: usize, at: usize) -> Result<Span, Refusal>
     ensures { result ≡ atom_at s.now n above at }
 {
@@ -67,6 +68,7 @@ pub fn read_atoms(s: &[u8], n: usize, count: usize, first: usize) -> Result<Span
 }
 
 // The list at a place, of `least` to n atoms.
+#[tactic(auto, unfolding(crate::specs::Lists::list_at, crate::specs::Answer::read_then))]
 pub fn read_list(s: &[u8], least: usize, n: usize, at: usize) -> Result<Span, Refusal>
     ensures { result ≡ list_at s.now least n at }
 {

@@ -75,6 +75,7 @@ pub fn take_number(s: &[u8], first: usize) -> Span
 }
 
 // The number at a place, where it is one of `least` to `most`.
+#[tactic(auto, unfolding(crate::specs::Number::within_at, crate::specs::Answer::read_then, rules::specs::Sum::pick))]
 pub fn read_within(s: &[u8], least: usize, most: usize, at: usize) -> Result<Span, Refusal>
     ensures { result ≡ within_at s.now least most at }
 {

@@ -6,6 +6,7 @@ ghost use Rattle.numbers.specs.Inner.Short.{past_bytes};
 pub const SHORT_MOST: usize = 127;
 
 // The place after so many bytes from a place on, as far as there are bytes.
+#[tactic(auto, unfolding(crate::specs::Inner::Short::past_bytes))]
 pub fn past_bytes(s: &[u8], count: usize, first: usize) -> usize
     ensures { result ≡ past_bytes s.now count first }
 {

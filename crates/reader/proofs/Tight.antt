@@ -4,11 +4,9 @@ use mathlib.Core.Path.{◌≡◌, sym, ◌∙◌}
 use mathlib.Core.Bool.{Bool}
 use mathlib.Core.List.{List}
 use denote.Ref.{Bor}
-use Rattle.reader.specs.Place.{first_place, step_at, place_after, at_end}
+use Rattle.reader.specs.Place.{Place, NextRule, first_place, step_at, place_after, at_end}
 use Rattle.reader.specs.Reader.{start_of, next_of, moved_to, moved_on, is_end, first_step}
 use Rattle.reader.specs.declared.Reader.{Reader}
-use Rattle.reader.specs.declared.Place.{Place}
-use Rattle.reader.specs.declared.NextRule.{NextRule}
 
 -- a promise that names its answer has one
 named : {A : Type 0} (x a b : A) → a ≡ x → b ≡ x → a ≡ b

@@ -2,10 +2,8 @@
 -- whether it is at the end.
 use Rattle.std.specs.Prelude.{ℕ, Bool, List}
 use Rattle.std.specs.Borrow.{Bor}
-use Rattle.reader.specs.Place.{first_place, step_at, place_after, at_end}
+use Rattle.reader.specs.Place.{Place, NextRule, first_place, step_at, place_after, at_end}
 use Rattle.reader.specs.declared.Reader.{Reader}
-use Rattle.reader.specs.declared.Place.{Place}
-use Rattle.reader.specs.declared.NextRule.{NextRule}
 
 abbrev pub reader_at : Bor (List ℕ) → Place → Reader
 reader_at sheet place = record { sheet = sheet; place = place }

@@ -13,7 +13,7 @@ pub use steps::step_at;
 use steps::{first_place, past_last, place_after};
 
 // The rules that are left on a sheet of so many atoms: how many, and where the first of them stands.
-#[derive(Clone, Copy)]
+#[derive(Clone, Copy, Debug, PartialEq, Eq)]
 pub struct Rest {
     pub atoms: usize,
     pub left: usize,
@@ -21,19 +21,17 @@ pub struct Rest {
 }
 
 // Where a reader stands: before the rules that are left, or at the refusal of its sheet.
-#[derive(Clone, Copy)]
-pub enum Place {
-    Rules(Rest),
-    Refused(Refusal),
+pub type Place = Result<Rest, Refusal>;
+
+// A rule that was read, and the rules that are left after it.
+#[derive(Clone, Copy, Debug, PartialEq, Eq)]
+pub struct Step {
+    pub rule: SheetRule,
+    pub rest: Rest,
 }
 
-// What one step finds: a rule and the place after it, the end of the rules, or a refusal.
-#[derive(Clone, Copy)]
-pub enum NextRule {
-    Read(SheetRule, Place),
-    End,
-    Refused(Refusal),
-}
+// What one step finds: a rule and those after it, None at the end of the rules, or a refusal.
+pub type NextRule = Result<Option<Step>, Refusal>;
 
 #[derive(Clone, Copy)]
 pub struct Reader<'a> {

@@ -15,8 +15,7 @@ use Rattle.numbers.specs.Lists.{list_at}
 use Rattle.numbers.specs.declared.Refusal.{Refusal}
 use Rattle.sheet.specs.Body.{body_at, unless_dead}
 use Rattle.sheet.specs.Rule.{head_then, basic_at, bounded_at, choice_at, kind_at, rule_at}
-use Rattle.sheet.specs.Inner.Head.{head_part, choice_head, bound_head, after_single, single_head, kind_head, head_at, body_after}
-use Rattle.sheet.specs.declared.SheetKind.{SheetKind}
+use Rattle.sheet.specs.Inner.Head.{choice_head, bound_head, after_single, single_head, kind_head, head_at, body_after}
 use Rattle.sheet.specs.declared.SheetKind.TheVariants.{Basic, Choice}
 use Rattle.sheet.specs.declared.HeadPart.{HeadPart}
 use Rattle.sheet.specs.declared.SheetRule.{SheetRule}
@@ -72,7 +71,3 @@ module _ (s : List ℕ) (n : ℕ) where
       pub no_head : (why : Refusal) → x ≡ Err why → r ≡ Err why → r ≡ rule_at s n at
       unfolding body_after read_then
       no_head why g e = e ∙ ap (λ (t : Result HeadPart Refusal). body_after s n t) (sym g ∙ h) ∙ rule_after
-
--- a head part with a kind that was computed
-pub kind_by : (kind other : SheetKind) (bound next : ℕ) → kind ≡ other → ◌≡◌ {A = Result HeadPart Refusal} (Ok (head_part kind bound next)) (Ok (head_part other bound next))
-kind_by kind other bound next h = ap (λ (k : SheetKind). Ok (head_part k bound next)) h
