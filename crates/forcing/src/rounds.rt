@@ -58,7 +58,9 @@ fn back_round(t: &Table, m: &mut [u8]) -> Result<bool, Clash>
     if first_with(m, t.atoms, 1).is_none() {
         return Ok(false);
     }
-    if lowest(m, t.atoms).is_none() {
+    let first_open = lowest(m, t.atoms);
+    let is_whole = first_open.is_none();
+    if is_whole {
         return Ok(false);
     }
     let mut counts = [0u8; Atom::LAST];

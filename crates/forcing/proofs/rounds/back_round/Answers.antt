@@ -12,10 +12,11 @@ returns-then-is_none c =
     let t = c.args.t.now in
     backed_idle t.code.now t.atoms t.rules c.args.m.now c.requires (none_with c.args.m.now c.first_with.result c.if-is_none.ensures c.first_with.ensures)
 
-pub returns-then-is_none-2 : goal.returns-then-is_none-2
-returns-then-is_none-2 c =
+pub returns-then-is_whole : goal.returns-then-is_whole
+returns-then-is_whole c =
     let t = c.args.t.now in
-    backed_whole t.code.now t.atoms t.rules t.laid c.args.m.now c.requires (none_with c.args.m.now c.lowest.result c.if-is_none-2.ensures c.lowest.ensures)
+    backed_whole t.code.now t.atoms t.rules t.laid c.args.m.now c.requires
+    (none_with c.args.m.now c.lowest-first_open.result c.if-is_whole.ensures c.lowest-first_open.ensures)
 
 pub count_all-requires-clause-space : goal.count_all-requires-clause-space
 unfolding atoms_most
@@ -31,11 +32,11 @@ unfolding atoms_most
 first_with-requires-2 c =
     subst (λ (x : ℕ). c.args.t.now.atoms ≤ x) (sym c.count_all.auto.counts) (blank_room atoms_most _ c.args.t.now.laid.few_atoms)
 
-pub returns-then-is_none-3 : goal.returns-then-is_none-3
-returns-then-is_none-3 c =
+pub returns-then-is_none-2 : goal.returns-then-is_none-2
+returns-then-is_none-2 c =
     let t = c.args.t.now in
     backed_more t.code.now t.atoms t.rules c.args.m.now _ c.requires c.count_all.ensures
-    (none_with c.count_all.new.counts c.first_with-2.result c.if-is_none-3.ensures c.first_with-2.ensures)
+    (none_with c.count_all.new.counts c.first_with-2.result c.if-is_none-2.ensures c.first_with-2.ensures)
 
 pub back_all-requires-clause-space : goal.back_all-requires-clause-space
 unfolding atoms_most
