@@ -61,7 +61,7 @@ fn show_margin_of(rt: &impl Print, sheet: &[u8], map: &[u8], rule: usize) -> io:
 // A sheet opened, and its first model.
 fn show_case(rt: &impl Print, name: &str, sheet: &[u8]) -> io::Result<()> {
     let mut map = [0u8; Atom::LAST];
-    print!(rt; "{name}")?;
+    println!(rt; "{name}")?;
     show_open(rt, sheet, &mut map)?;
     show_solve(rt, sheet, &mut map)
 }
@@ -76,7 +76,7 @@ fn two_of_four(rt: &impl Print) -> io::Result<()> {
     let sheet =
         b"\x01\x05\x02\x03\x04\x02\x03\x04\x05\x00\x00\x02\x01\x02\x04\x02\x03\x04\x05\x00\x00\x00";
     let mut map = [0u8; Atom::LAST];
-    show_case(rt, "choice {2,3,4,5}; 1 if 2 of {2,3,4,5}\n", sheet)?;
+    show_case(rt, "choice {2,3,4,5}; 1 if 2 of {2,3,4,5}", sheet)?;
     show_open(rt, sheet, &mut map)?;
     show_pin(rt, sheet, &mut map, "1 out", 1, 2)?;
     show_pin(rt, sheet, &mut map, "2 in", 2, 1)?;
@@ -93,7 +93,7 @@ fn weighed(rt: &impl Print) -> io::Result<()> {
     let mut map = [0u8; Atom::LAST];
     show_case(
         rt,
-        "choice {2,3,4}; 1 if {2=3, 3=4, not 4=2} at least 6\n",
+        "choice {2,3,4}; 1 if {2=3, 3=4, not 4=2} at least 6",
         sheet,
     )?;
     show_open(rt, sheet, &mut map)?;
@@ -107,7 +107,7 @@ fn weighed(rt: &impl Print) -> io::Result<()> {
 
 // A sheet opened, and atom 1 pinned in.
 fn show_pinned(rt: &impl Print, name: &str, sheet: &[u8], map: &mut [u8]) -> io::Result<()> {
-    print!(rt; "{name}")?;
+    println!(rt; "{name}")?;
     show_open(rt, sheet, map)?;
     show_pin(rt, sheet, map, "1 in", 1, 1)
 }
@@ -119,10 +119,10 @@ fn show_repeats(rt: &impl Print) -> io::Result<()> {
     let another =
         b"\x01\x02\x03\x03\x01\x02\x00\x00\x01\x01\x01\x02\x00\x02\x01\x01\x01\x02\x00\x00\x00";
     let mut map = [0u8; Atom::LAST];
-    show_pinned(rt, "choice {2}; 1 if 2\n", once, &mut map)?;
-    show_pinned(rt, "choice {2}; 1 if 2; 1 if 2\n", twice, &mut map)?;
+    show_pinned(rt, "choice {2}; 1 if 2", once, &mut map)?;
+    show_pinned(rt, "choice {2}; 1 if 2; 1 if 2", twice, &mut map)?;
     show_margin_of(rt, twice, &map, 3)?;
-    show_pinned(rt, "choice {2}; 1 if 2; 1 if 1 of {2}\n", another, &mut map)
+    show_pinned(rt, "choice {2}; 1 if 2; 1 if 1 of {2}", another, &mut map)
 }
 
 // Refusals 1, 2 and 15: where a number ends.
@@ -200,21 +200,21 @@ fn show_bounds(rt: &impl Print) -> io::Result<()> {
 
 // Sheets of at most two atoms.
 fn show_small(rt: &impl Print) -> io::Result<()> {
-    show_case(rt, "no atoms\n", b"\x01\x00\x00\x00\x00")?;
-    show_case(rt, "1 if 1\n", b"\x01\x01\x01\x01\x01\x01\x01\x00\x00\x00")?;
+    show_case(rt, "no atoms", b"\x01\x00\x00\x00\x00")?;
+    show_case(rt, "1 if 1", b"\x01\x01\x01\x01\x01\x01\x01\x00\x00\x00")?;
     show_case(
         rt,
-        "1 if not 1\n",
+        "1 if not 1",
         b"\x01\x01\x01\x01\x01\x00\x01\x01\x00\x00",
     )?;
     show_case(
         rt,
-        "1 if not 2; 2 if not 1\n",
+        "1 if not 2; 2 if not 1",
         b"\x01\x02\x02\x01\x01\x00\x01\x02\x01\x02\x00\x01\x01\x00\x00",
     )?;
     show_case(
         rt,
-        "choice {1}\n",
+        "choice {1}",
         b"\x01\x01\x01\x03\x01\x01\x00\x00\x00\x00",
     )
 }
@@ -223,17 +223,17 @@ fn main(rt: HostRuntime) -> io::Result<()> {
     show_small(&rt)?;
     show_case(
         &rt,
-        "1 if 2; 2 if 1; 3 if not 1\n",
+        "1 if 2; 2 if 1; 3 if not 1",
         b"\x01\x03\x03\x01\x01\x01\x02\x00\x01\x02\x01\x01\x00\x01\x03\x00\x01\x01\x00\x00",
     )?;
     show_case(
         &rt,
-        "1 if 0 of {2}\n",
+        "1 if 0 of {2}",
         b"\x01\x02\x01\x02\x01\x00\x01\x02\x00\x00\x00",
     )?;
     show_case(
         &rt,
-        "choice {1}, 1 in both compute lists\n",
+        "choice {1}, 1 in both compute lists",
         b"\x01\x01\x01\x03\x01\x01\x00\x00\x01\x01\x01\x01",
     )?;
     two_of_four(&rt)?;
@@ -241,7 +241,7 @@ fn main(rt: HostRuntime) -> io::Result<()> {
     show_repeats(&rt)?;
     show_case(
         &rt,
-        "P5 of a lecture by Cabalar\n",
+        "P5 of a lecture by Cabalar",
         b"\x01\x08\x08\x01\x01\x01\x03\x01\x02\x01\x02\x00\x01\x01\x01\x03\x00\x00\x01\x04\x01\x05\x01\x07\x01\x05\x01\x04\x01\x07\x01\x06\x00\x01\x04\x01\x07\x00\x01\x03\x01\x08\x01\x07\x00\x00\x00",
     )?;
     show_numbers(&rt)?;
