@@ -8,28 +8,24 @@ ghost use Rattle.repeats.specs.Inner.Same.{SameRuns, Filled};
 use table::{atom_at, end_at, heads_at, kind_at, need_at, negatives_at, positives_at, weight_at};
 
 // Are the pairs from one place to before another those from a third place on?
+#[tactic(auto, unfolding(rules::specs::Limits::number_most))]
 fn same_pairs(code: &[u32], from: u32, to: u32, other: u32) -> bool
     requires { other + (to - from) ≤ number_most }
     ensures { Decides result (SameRuns code.now from to other) }
 {
-    let mut j = from;
-    let mut k = other;
-    while j < to {
-        if atom_at(code, j) != atom_at(code, k) {
+    for j in from..to {
+        let k = other + (j - from);
+        if atom_at(code, j) != atom_at(code, k) || weight_at(code, j) != weight_at(code, k) {
             return false;
         }
-        if weight_at(code, j) != weight_at(code, k) {
-            return false;
-        }
-        j += 1;
-        k += 1;
     }
     true
 }
 
 // "Two rules are the same when kind, heads, need, body and weights are all equal."
 pub fn same_rule(code: &[u32], i: u32, k: u32) -> bool
-    requires { Filled code.now i × Filled code.now k }
+    requires one { Filled code.now i }
+    requires other { Filled code.now k }
     ensures { Decides result (row_rule code.now i ≡ row_rule code.now k) }
 {
     if kind_at(code, i) != kind_at(code, k) {

@@ -1,6 +1,6 @@
 -- Two rows have the same rule exactly when their words tell the same: each list of a rule is a run of pairs, two runs are the same list
 -- when they are as long and the same pair by pair, and heads weigh 1, so that their atoms are all there is to tell.
-use Rattle.std.proofs.Common.{◌≡◌, ℕ, zero, suc, ◌+◌, ◌-◌, ◌<◌, ◌≤◌, Bool, true, false, List, ◌∷◌, length, sym, refl, ap, ◌∙◌, ap₂, ⊎_elim, arith}
+use Rattle.std.proofs.Common.{◌≡◌, ℕ, zero, suc, ◌+◌, ◌-◌, ◌<◌, ◌≤◌, Bool, false, List, ◌∷◌, length, sym, refl, ap, ◌∙◌, ap₂, ⊎_elim, arith}
 use Rattle.rules.specs.Rule.{Rule, weighted, atoms_of, ones}
 use Rattle.rules.specs.Inner.Decides.{Decides}
 use Rattle.rules.proofs.Tests.{below?}
@@ -139,36 +139,23 @@ module _ (c : List ℕ) (i k : ℕ) (one : Filled c i) (two : Filled c k) where
       → Decides b (SameRuns c (heads_at c i) (end_at c i) (heads_at c k)) → Decides b (row_rule c i ≡ row_rule c k)
   rule_told b parts = decides_as b (λ runs. rule_of_parts (parts runs)) (λ same. (parts_of_rule same).runs)
 
--- the pairs from one place to before j are those from another to before k
-pub record Passed (c : List ℕ) (from other j k : ℕ) : Type 0 where
-  pub low : from ≤ j
-  pub place : k ≡ other + (j - from)
-  pub runs : SameRuns c from j other
+-- the pairs from one place to before j are those from another on
+module _ (c : List ℕ) (from other j : ℕ) (low : from ≤ j) (passed : SameRuns c from j other) where
+  pub one_passed :
+      pair_atom c j ≡ pair_atom c (other + (j - from)) → pair_weight c j ≡ pair_weight c (other + (j - from)) → SameRuns c from (j + 1) other
+  one_passed atoms weights x h =
+      ⊎_elim (λ (l : x < j - from). passed x l)
+      (λ (l : j - from ≤ x). pair_there c (omega arith) (omega arith) (ap₂ weighted atoms weights)) (below? x (j - from))
 
-module _ (c : List ℕ) (from other : ℕ) where
-  pub none_passed : Passed c from other from other
-  none_passed = record { low = omega arith; place = omega arith; runs = λ x h. absurd (omega arith) }
-
-  module _ (j k to : ℕ) (passed : Passed c from other j k) where
-    pub one_passed : pair_atom c j ≡ pair_atom c k → pair_weight c j ≡ pair_weight c k → Passed c from other (j + 1) (k + 1)
-    one_passed atoms weights =
-        record {
-          low = omega arith;
-          place = omega arith;
-          runs =
-              λ x h.
-              ⊎_elim (λ (l : x < j - from). passed.runs x l)
-              (λ (l : j - from ≤ x). pair_there c (omega arith) (omega arith) (ap₂ weighted atoms weights)) (below? x (j - from));
-        }
-
-    pub runs_differ : j < to → (pair_atom c j ≡ pair_atom c k → pair_weight c j ≡ pair_weight c k → ⊥) → Decides false (SameRuns c from to other)
-    runs_differ high apart =
-        record {
-          decides =
-              λ same.
-              let pair : pair_at c j ≡ pair_at c k = pair_there c (omega arith) (omega arith) (same (j - from) (omega arith)) in
-              apart (ap (λ l. l.atom) pair) (ap (λ l. l.weight) pair);
-        }
-
-    pub all_passed : to ≤ j → Decides true (SameRuns c from to other)
-    all_passed high = record { decides = λ x h. passed.runs x (omega arith) }
+-- a pair that differs from its own
+pub runs_differ :
+    (c : List ℕ) (from other j to : ℕ) → from ≤ j → j < to
+    → (pair_atom c j ≡ pair_atom c (other + (j - from)) → pair_weight c j ≡ pair_weight c (other + (j - from)) → ⊥)
+    → Decides false (SameRuns c from to other)
+runs_differ c from other j to low high apart =
+    record {
+      decides =
+          λ same.
+          let pair : pair_at c j ≡ pair_at c (other + (j - from)) = pair_there c (omega arith) refl (same (j - from) (omega arith)) in
+          apart (ap (λ l. l.atom) pair) (ap (λ l. l.weight) pair);
+    }

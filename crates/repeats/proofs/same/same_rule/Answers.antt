@@ -8,17 +8,17 @@ use Rattle.repeats.proofs.same.same_rule.Goals as goal
 
 pub returns-then-kind_at : goal.returns-then-kind_at
 returns-then-kind_at c =
-    rule_differs c.args.code.now c.args.i c.args.k c.requires.0 c.requires.1
+    rule_differs c.args.code.now c.args.i c.args.k c.requires.one c.requires.other
     (λ parts. omega (arith, ap kind_number parts.kind, c.if-kind_at.true, c.kind_at-2.ensures, c.kind_at.ensures))
 
 pub returns-then-need_at : goal.returns-then-need_at
 returns-then-need_at c =
-    rule_differs c.args.code.now c.args.i c.args.k c.requires.0 c.requires.1
+    rule_differs c.args.code.now c.args.i c.args.k c.requires.one c.requires.other
     (λ parts. omega (arith, parts.need, c.if-need_at.true, c.need_at-2.ensures, c.need_at.ensures))
 
 pub returns-then-positives_at-from : goal.returns-then-positives_at-from
 returns-then-positives_at-from c =
-    rule_differs c.args.code.now c.args.i c.args.k c.requires.0 c.requires.1
+    rule_differs c.args.code.now c.args.i c.args.k c.requires.one c.requires.other
     (λ parts.
     omega (
       arith,
@@ -32,7 +32,7 @@ returns-then-positives_at-from c =
 
 pub returns-then-negatives_at-from : goal.returns-then-negatives_at-from
 returns-then-negatives_at-from c =
-    rule_differs c.args.code.now c.args.i c.args.k c.requires.0 c.requires.1
+    rule_differs c.args.code.now c.args.i c.args.k c.requires.one c.requires.other
     (λ parts.
     omega (
       arith,
@@ -46,7 +46,7 @@ returns-then-negatives_at-from c =
 
 pub returns-then-to-from : goal.returns-then-to-from
 returns-then-to-from c =
-    rule_differs c.args.code.now c.args.i c.args.k c.requires.0 c.requires.1
+    rule_differs c.args.code.now c.args.i c.args.k c.requires.one c.requires.other
     (λ parts.
     omega (
       arith,
@@ -61,7 +61,7 @@ returns-then-to-from c =
 pub returns : goal.returns
 returns c =
     let code = c.args.code.now in
-    rule_told code c.args.i c.args.k c.requires.0 c.requires.1 c.same_pairs.result
+    rule_told code c.args.i c.args.k c.requires.one c.requires.other c.same_pairs.result
     (λ runs. record {
       kind = kind_same (kind_at code c.args.i) (kind_at code c.args.k) (sym c.kind_at.ensures ∙ c.if-kind_at.false ∙ c.kind_at-2.ensures);
       need = sym c.need_at.ensures ∙ c.if-need_at.false ∙ c.need_at-2.ensures;
