@@ -6,7 +6,8 @@ use mathlib.Core.List.{List, [], ◌∷◌, Memᴰ}
 use native.Mathlib.Omega.{arith}
 use lib.ListN.{get_or}
 use Rattle.rules.specs.Limits.{number_most}
-use Rattle.rules.specs.Rule.{Rule, Sheet, SameSet, kind_number, choice, no_rule, atoms_of}
+use Rattle.rules.specs.Rule.{Rule, Sheet, SameSet, kind_number, no_rule, atoms_of}
+use Rattle.rules.specs.declared.kind.Kind.TheVariants.{Choice as choice}
 use Rattle.rules.proofs.Members.{mem_index}
 use Rattle.numbers.specs.Answer.{span}
 use Rattle.numbers.specs.Shown.Encode.{none}

@@ -9,7 +9,8 @@ use lib.ListN.{length, length-map}
 use Rattle.rules.specs.Sum.{pick}
 use Rattle.rules.specs.Limits.{weight_most, number_most}
 use Rattle.rules.specs.Number.{checked_atom}
-use Rattle.rules.specs.Rule.{Weighted, basic, choice, kind_number, one, ones, choice_rule}
+use Rattle.rules.specs.Rule.{Weighted, kind_number, one, ones, choice_rule}
+use Rattle.rules.specs.declared.kind.Kind.TheVariants.{Basic as basic, Choice as choice}
 use Rattle.rules.specs.declared.Atom.{Atom}
 use Rattle.rules.proofs.Inside.{atom_is}
 use Rattle.rules.proofs.Same.{rule_made}

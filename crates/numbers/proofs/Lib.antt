@@ -1,3 +1,4 @@
 pub mod Answer
+pub mod Reasons
 pub mod Stands
 pub mod Places

@@ -10,32 +10,29 @@ use lib.Dec.{ltb, leb}
 use Rattle.rules.specs.Limits.{highest_refusal}
 use Rattle.rules.specs.Number.{checked_atom}
 use Rattle.rules.specs.Sum.{pick}
-use Rattle.rules.specs.declared.Atom.{Atom}
-use Rattle.rules.specs.declared.AtomOr.{AtomOr}
-use Rattle.rules.specs.declared.AtomOr.TheVariants.{Is, Not}
-use Rattle.numbers.specs.Answer.{refusal, read_then, atom_then}
+use Rattle.numbers.specs.Answer.{Reason, EndsEarly, NotShortest, NoAtom, NotIncreasing, FourthByte, reason_number, OutsideLimits, refusal, read_then}
 use Rattle.numbers.specs.Number.{number_at, within_at}
 use Rattle.numbers.specs.Lists.{atom_at, up_to, in_turn, list_at}
 use Rattle.numbers.specs.Shown.Refusals.{NumberRefused, ends, padded, large}
 use Rattle.numbers.specs.declared.Refusal.{Refusal}
 use Rattle.numbers.specs.declared.Span.{Span}
-use Rattle.numbers.specs.declared.Read.{Read}
-use Rattle.numbers.specs.declared.Read.TheVariants.{Got, Refused}
+use Rattle.numbers.proofs.Reasons.{reason_numbered}
 use Rattle.numbers.proofs.number.Most.{number_far}
 use Rattle.numbers.proofs.number.Refusals.{refused_why}
+use Rattle.std.specs.Prelude.{Option, Some, None, ok_or, Result, Ok, Err}
 
 -- a refusal of one of the numbers that there are, at a place up to the last
 pub record Placed (last : ℕ) (why : Refusal) : Type 0 where
-  pub number : why.number ≤ highest_refusal
+  pub number : reason_number why.reason ≤ highest_refusal
   pub place : why.place ≤ last
 
-pub placed : {last : ℕ} (number place : ℕ) → number ≤ highest_refusal → place ≤ last → Placed last (refusal number place)
-placed number place h l = record { number = h; place = l }
+pub placed : {last : ℕ} (reason : Reason) (place : ℕ) → place ≤ last → Placed last (refusal reason place)
+placed reason place l = record { number = (reason_numbered reason).1; place = l }
 
 -- an answer of a reader that stays within the bytes
-pub data Tame (s : List ℕ) : Read → Type 0 where
-  gets : (p : Span) → p.next ≤ length s → Tame s (Got p)
-  refuses : (why : Refusal) → Placed (length s) why → Tame s (Refused why)
+pub data Tame (s : List ℕ) : Result Span Refusal → Type 0 where
+  gets : (p : Span) → p.next ≤ length s → Tame s (Ok p)
+  refuses : (why : Refusal) → Placed (length s) why → Tame s (Err why)
 
 -- What is so of both ways of a test is so of the test's answer; and so for a part, an atom, and what comes after them.
 pub pick_so : {A : Type 0} (P : A → Type 0) (b : Bool) (x y : A) → (b ≡ true → P x) → (b ≡ false → P y) → P (pick b x y)
@@ -44,17 +41,19 @@ pick_so P true x y yea nay = yea refl
 pick_so P false x y yea nay = nay refl
 
 pub read_so :
-    {A : Type 0} (P : A → Type 0) {s : List ℕ} {a : Read} (up : Refusal → A) (next : Span → A) → Tame s a
+    {A : Type 0} (P : A → Type 0) {s : List ℕ} {a : Result Span Refusal} (up : Refusal → A) (next : Span → A) → Tame s a
     → ((why : Refusal) → Placed (length s) why → P (up why)) → ((p : Span) → p.next ≤ length s → P (next p))
     → P (read_then up a next)
 unfolding read_then
 read_so P up next (gets p l) bad good = good p l
 read_so P up next (refuses why w) bad good = bad why w
 
-pub atom_so : {A : Type 0} (P : A → Type 0) (other : A) (a : AtomOr) (next : Atom → A) → P other → ((atom : Atom) → P (next atom)) → P (atom_then other a next)
-unfolding atom_then
-atom_so P other (Is atom) next bad good = good atom
-atom_so P other Not next bad good = bad
+pub some_so :
+    {V A : Type 0} (P : A → Type 0) (up : Refusal → A) (next : V → A) (why : Refusal) (o : Option V) → P (up why)
+    → ((v : V) → P (next v)) → P (read_then up (ok_or o why) next)
+unfolding read_then
+some_so P up next why (Some v) bad good = good v
+some_so P up next why None bad good = bad
 
 module _ (s : List ℕ) where
   module _ (at : ℕ) (h : at ≤ length s) where
@@ -62,45 +61,45 @@ module _ (s : List ℕ) where
     number_tame = by (number_at s at) refl
       where
         said : (why : Refusal) → NumberRefused s at why → Placed (length s) why
-        said why (ends count few runs l) = placed 1 (length s) (omega arith) (omega arith)
-        said why (padded count some few runs l o) = placed 2 at (omega arith) h
-        said why (large runs) = placed 15 at (omega arith) h
+        said why (ends count few runs l) = placed EndsEarly (length s) (omega arith)
+        said why (padded count some few runs l o) = placed NotShortest at h
+        said why (large runs) = placed FourthByte at h
 
-        by : (a : Read) → number_at s at ≡ a → Tame s a
-        by (Got p) e = gets p (number_far s at p e).1
-        by (Refused why) e = refuses why (said why (refused_why s at why e))
+        by : (a : Result Span Refusal) → number_at s at ≡ a → Tame s a
+        by (Ok p) e = gets p (number_far s at p e).1
+        by (Err why) e = refuses why (said why (refused_why s at why e))
 
     pub within_tame : (least most : ℕ) → Tame s (within_at s least most at)
     unfolding within_at
     within_tame least most =
-        read_so (Tame s) Refused _ number_tame refuses
+        read_so (Tame s) Err _ number_tame refuses
         (λ number k. pick_so (Tame s) (ltb number.value least) _ _ (λ b. outside)
         (λ b. pick_so (Tame s) (ltb most number.value) _ _ (λ c. outside) (λ c. gets number k)))
       where
-        outside : Tame s (Refused (refusal 4 at))
-        outside = refuses _ (placed 4 at (omega arith) h)
+        outside : Tame s (Err (refusal OutsideLimits at))
+        outside = refuses _ (placed OutsideLimits at h)
 
     atom_tame : (n above : ℕ) → Tame s (atom_at s n above at)
     unfolding atom_at
     atom_tame n above =
-        read_so (Tame s) Refused _ number_tame refuses
-        (λ number k. atom_so (Tame s) _ (checked_atom n number.value) _ (refuses _ (placed 6 at (omega arith) h))
+        read_so (Tame s) Err _ number_tame refuses
+        (λ number k. some_so (Tame s) Err _ _ (checked_atom n number.value) (refuses _ (placed NoAtom at h))
         (λ atom. pick_so (Tame s) (leb atom.number above) _ _
-        (λ b. refuses _ (placed 7 at (omega arith) h))
+        (λ b. refuses _ (placed NotIncreasing at h))
         (λ b. gets number k)))
 
   -- a run of steps, each of which stays within the bytes
   pub run_tame :
-      (step : ℕ → ℕ → Read) → ((before at : ℕ) → at ≤ length s → Tame s (step before at)) → (left before : ℕ) (done : Span)
+      (step : ℕ → ℕ → Result Span Refusal) → ((before at : ℕ) → at ≤ length s → Tame s (step before at)) → (left before : ℕ) (done : Span)
       → done.next ≤ length s → Tame s (in_turn step left before done)
   unfolding in_turn
   run_tame step tame zero before done h = gets done h
   run_tame step tame (suc left) before done h =
-      read_so (Tame s) Refused _ (tame before done.next h) refuses
+      read_so (Tame s) Err _ (tame before done.next h) refuses
       (λ one k. run_tame step tame left one.value (up_to done one.next) k)
 
   pub list_tame : (least n at : ℕ) → at ≤ length s → Tame s (list_at s least n at)
   unfolding list_at
   list_tame least n at h =
-      read_so (Tame s) Refused _ (within_tame at h least n) refuses
+      read_so (Tame s) Err _ (within_tame at h least n) refuses
       (λ count k. run_tame (atom_at s n) (λ before at l. atom_tame at l n before) count.value 0 _ k)

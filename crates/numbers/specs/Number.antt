@@ -3,30 +3,29 @@
 -- Refusal 1: "sheet ends inside or before a number that is due", at the sheet's length. 2: "a number not in its shortest form", at
 -- its first byte. 15: "a fourth byte with its top bit set", "same place, whatever follows". 4: a count or a weight "outside its
 -- limits", at its first byte.
-use Rattle.std.specs.Prelude.{ℕ, zero, suc, ◌+◌, ◌*◌, ◌%◌, ◌&&◌, List, length, get_or, ltb, eqb}
+use Rattle.std.specs.Prelude.{ℕ, zero, suc, ◌+◌, ◌*◌, ◌%◌, ◌&&◌, List, length, get_or, ltb, eqb, Result, Ok, Err}
 use Rattle.rules.specs.Sum.{pick}
-use Rattle.numbers.specs.Answer.{refusal, span, read_then}
+use Rattle.numbers.specs.Answer.{EndsEarly, NotShortest, OutsideLimits, FourthByte, refusal, span, read_then}
+use Rattle.numbers.specs.declared.Refusal.{Refusal}
 use Rattle.numbers.specs.declared.Span.{Span}
-use Rattle.numbers.specs.declared.Read.{Read}
-use Rattle.numbers.specs.declared.Read.TheVariants.{Got, Refused}
 
 -- a low group, and the groups above it
 abbrev pub higher : ℕ → Span → Span
 higher low high = span (low + 128 * high.value) high.first high.next
 
 -- the groups from a place on, at most so many, of the number whose first byte is at first
-unfoldable pub groups_from : ℕ → List ℕ → ℕ → ℕ → Read
-groups_from zero s first at = Refused (refusal 15 first)
+unfoldable pub groups_from : ℕ → List ℕ → ℕ → ℕ → Result Span Refusal
+groups_from zero s first at = Err (refusal FourthByte first)
 groups_from (suc left) s first at =
     pick (ltb at (length s))
     (pick (ltb (get_or s at 0) 128)
-    (pick (ltb first at && eqb (get_or s at 0) 0) (Refused (refusal 2 first))
-    (Got (span (get_or s at 0) first (at + 1))))
-    (read_then Refused (groups_from left s first (at + 1))
-    (λ high. Got (higher (get_or s at 0 % 128) high))))
-    (Refused (refusal 1 (length s)))
+    (pick (ltb first at && eqb (get_or s at 0) 0) (Err (refusal NotShortest first))
+    (Ok (span (get_or s at 0) first (at + 1))))
+    (read_then Err (groups_from left s first (at + 1))
+    (λ high. Ok (higher (get_or s at 0 % 128) high))))
+    (Err (refusal EndsEarly (length s)))
 
-unfoldable pub number_at : List ℕ → ℕ → Read
+unfoldable pub number_at : List ℕ → ℕ → Result Span Refusal
 number_at s at = groups_from 4 s at at
 
 -- the same without a test: of a place where a number was read, that number
@@ -41,8 +40,8 @@ taken_from (suc left) s first at =
 unfoldable pub taken_at : List ℕ → ℕ → Span
 taken_at s at = taken_from 4 s at at
 
-unfoldable pub within_at : List ℕ → ℕ → ℕ → ℕ → Read
+unfoldable pub within_at : List ℕ → ℕ → ℕ → ℕ → Result Span Refusal
 within_at s least most at =
-    read_then Refused (number_at s at)
-    (λ number. pick (ltb number.value least) (Refused (refusal 4 at))
-    (pick (ltb most number.value) (Refused (refusal 4 at)) (Got number)))
+    read_then Err (number_at s at)
+    (λ number. pick (ltb number.value least) (Err (refusal OutsideLimits at))
+    (pick (ltb most number.value) (Err (refusal OutsideLimits at)) (Ok number)))

@@ -4,25 +4,24 @@ ghost use Rattle.numbers.specs.Answer.{span};
 ghost use Rattle.numbers.specs.Lists.{atom_at, in_turn, list_at};
 ghost use Rattle.numbers.specs.Inner.Short.{Ahead};
 
-use super::number::{read_number, read_within, wide};
-use super::short::{SHORT_MOST, lesser, past_bytes};
-use super::{Read, Span, refused, spanned};
-use rules::{Atom, AtomOr};
+use super::number::{read_number, read_within};
+use super::short::{SHORT_MOST, past_bytes};
+use super::{Reason, Refusal, Span};
+use rules::Atom;
 
 // The atom at a place, one of 1 to n and above the atom before it.
-pub fn read_atom(s: &[u8], n: usize, above: usize, at: usize) -> Read
+pub fn read_atom(s: &[u8], n: usize, above: usize, at: usize) -> Result<Span, Refusal>
     ensures { result ≡ atom_at s.now n above at }
 {
     let got = read_number(s, at);
-    let Read::Got(number) = got else {
+    let Ok(number) = got else {
         return got;
     };
-    let checked = Atom::checked(number.value, n);
-    let AtomOr::Is(atom) = checked else {
-        return refused(6, at);
+    let Some(atom) = Atom::checked(number.value, n) else {
+        return Err(Reason::NoAtom.at(at));
     };
     if atom.number() <= above {
-        return refused(7, at);
+        return Err(Reason::NotIncreasing.at(at));
     }
     got
 }
@@ -33,29 +32,24 @@ fn short_atoms(s: &[u8], n: usize, count: usize, first: usize) -> Span
     ensures { Ahead (atom_at s.now n) count first result.value result.next }
 {
     let end = past_bytes(s, count, first);
-    let most = lesser(n, SHORT_MOST);
+    let most = n.min(SHORT_MOST);
     let mut above = 0;
     let mut at = first;
+    // kept by hand: the index is the answer, and an iterator over pairs would count it beside itself
     while 1 < end - at {
-        let atom = wide(s[at]);
-        let next = wide(s[at + 1]);
-        if atom <= above {
-            return spanned(above, first, at);
-        }
-        if next <= atom {
-            return spanned(above, first, at);
-        }
-        if most < next {
-            return spanned(above, first, at);
+        let atom = usize::from(s[at]);
+        let next = usize::from(s[at + 1]);
+        if atom <= above || next <= atom || most < next {
+            break;
         }
         above = next;
         at += 2;
     }
-    spanned(above, first, at)
+    Span::new(above, first, at)
 }
 
 // So many atoms from a place on, strictly increasing.
-pub fn read_atoms(s: &[u8], n: usize, count: usize, first: usize) -> Read
+pub fn read_atoms(s: &[u8], n: usize, count: usize, first: usize) -> Result<Span, Refusal>
     ensures { result ≡ in_turn (atom_at s.now n) count 0 (span count first first) }
 {
     let short = short_atoms(s, n, count, first);
@@ -63,25 +57,21 @@ pub fn read_atoms(s: &[u8], n: usize, count: usize, first: usize) -> Read
     let mut at = short.next;
     for _ in at - first..count {
         let got = read_atom(s, n, above, at);
-        let Read::Got(atom) = got else {
+        let Ok(atom) = got else {
             return got;
         };
         above = atom.value;
         at = atom.next;
     }
-    Read::Got(Span {
-        value: count,
-        first,
-        next: at,
-    })
+    Ok(Span::new(count, first, at))
 }
 
 // The list at a place, of `least` to n atoms.
-pub fn read_list(s: &[u8], least: usize, n: usize, at: usize) -> Read
+pub fn read_list(s: &[u8], least: usize, n: usize, at: usize) -> Result<Span, Refusal>
     ensures { result ≡ list_at s.now least n at }
 {
     let got = read_within(s, least, n, at);
-    let Read::Got(count) = got else {
+    let Ok(count) = got else {
         return got;
     };
     read_atoms(s, n, count.value, count.next)

@@ -1,56 +1,41 @@
 // The numbers of a sheet, each at a place of its bytes.
-ghost use Rattle.std.specs.Prelude.{◌<◌, ◌≡◌};
+ghost use Rattle.std.specs.Prelude.{◌≡◌};
 ghost use Rattle.numbers.specs.Number.{number_at, within_at, taken_at};
 
-use super::{Read, Span, refused, spanned};
-
-// A byte as a number.
-pub fn wide(b: u8) -> usize
-    ensures { (result ≡ b) × (result < 256) }
-{
-    b as usize
-}
+use super::{Reason, Refusal, Span};
 
 // The number at a place: its groups, low group first.
-pub fn read_number(s: &[u8], first: usize) -> Read
+pub fn read_number(s: &[u8], first: usize) -> Result<Span, Refusal>
     ensures { result ≡ number_at s.now first }
 {
     if s.len() <= first {
-        return refused(1, s.len());
+        return Err(Reason::EndsEarly.at(s.len()));
     }
-    let byte = wide(s[first]);
+    let byte = usize::from(s[first]);
     let is_short = byte < 128;
     if is_short {
-        return Read::Got(Span {
-            value: byte,
-            first,
-            next: first + 1,
-        });
+        return Ok(Span::new(byte, first, first + 1));
     }
     let mut at = first + 1;
     let mut sum: usize = byte - 128;
     let mut scale: usize = 128;
     for _ in 1..4u32 {
         if s.len() <= at {
-            return refused(1, s.len());
+            return Err(Reason::EndsEarly.at(s.len()));
         }
-        let group = wide(s[at]);
+        let group = usize::from(s[at]);
         at += 1;
         sum += group % 128 * scale;
         if group < 128 {
             let is_needless = group == 0;
             if is_needless {
-                return refused(2, first);
+                return Err(Reason::NotShortest.at(first));
             }
-            return Read::Got(Span {
-                value: sum,
-                first,
-                next: at,
-            });
+            return Ok(Span::new(sum, first, at));
         }
         scale *= 128;
     }
-    refused(15, first)
+    Err(Reason::FourthByte.at(first))
 }
 
 // The number at a place where one was read before: nothing is refused. Its groups count 1, 128, 16,384 and 2,097,152.
@@ -58,52 +43,49 @@ pub fn take_number(s: &[u8], first: usize) -> Span
     ensures { result ≡ taken_at s.now first }
 {
     if s.len() <= first {
-        return spanned(0, first, first);
+        return Span::new(0, first, first);
     }
-    let low = wide(s[first]);
+    let low = usize::from(s[first]);
     let second = first + 1;
     if low < 128 {
-        return spanned(low, first, second);
+        return Span::new(low, first, second);
     }
     let one = low - 128;
     if s.len() <= second {
-        return spanned(one, first, second);
+        return Span::new(one, first, second);
     }
-    let group = wide(s[second]);
+    let group = usize::from(s[second]);
     let two = one + group % 128 * 128;
     let third = second + 1;
     if group < 128 {
-        return spanned(two, first, third);
+        return Span::new(two, first, third);
     }
     if s.len() <= third {
-        return spanned(two, first, third);
+        return Span::new(two, first, third);
     }
-    let above = wide(s[third]);
+    let above = usize::from(s[third]);
     let three = two + above % 128 * 16_384;
     let fourth = third + 1;
     if above < 128 {
-        return spanned(three, first, fourth);
+        return Span::new(three, first, fourth);
     }
     if s.len() <= fourth {
-        return spanned(three, first, fourth);
+        return Span::new(three, first, fourth);
     }
-    let top = wide(s[fourth]);
-    spanned(three + top % 128 * 2_097_152, first, fourth + 1)
+    let top = usize::from(s[fourth]);
+    Span::new(three + top % 128 * 2_097_152, first, fourth + 1)
 }
 
 // The number at a place, where it is one of `least` to `most`.
-pub fn read_within(s: &[u8], least: usize, most: usize, at: usize) -> Read
+pub fn read_within(s: &[u8], least: usize, most: usize, at: usize) -> Result<Span, Refusal>
     ensures { result ≡ within_at s.now least most at }
 {
     let got = read_number(s, at);
-    let Read::Got(number) = got else {
+    let Ok(number) = got else {
         return got;
     };
-    if number.value < least {
-        return refused(4, at);
-    }
-    if most < number.value {
-        return refused(4, at);
+    if number.value < least || most < number.value {
+        return Err(Reason::OutsideLimits.at(at));
     }
     got
 }

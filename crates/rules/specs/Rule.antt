@@ -1,13 +1,10 @@
 -- "A rule is one of four kinds, each with its own head part." "Each rule has a need and each body literal a weight.
 -- Basic and choice: weight 1, need the body's length. Constraint: weight 1, need the bound. Weight rule: as written."
-use Rattle.std.specs.Prelude.{ℕ, ◌+◌, ◌-◌, ◌≤◌, ◌≡◌, Bool, true, false, length, get_or, eqb, ltb}
+use Rattle.std.specs.Prelude.{ℕ, ◌+◌, ◌-◌, ◌≤◌, ◌≡◌, Bool, true, false, length, get_or, eqb, ltb, Option, Some, None}
 use mathlib.Core.List.{List, [], ◌∷◌, map, Memᴰ}
 use Rattle.rules.specs.Sum.{pick}
-use Rattle.rules.specs.declared.Item.{Item}
-use Rattle.rules.specs.declared.Item.TheVariants.{Is as item, Nothing as nothing}
-
-pub data Kind : Type 0 where
-  basic constraint choice weight : Kind
+use Rattle.rules.specs.declared.kind.Kind.{Kind}
+use Rattle.rules.specs.declared.kind.Kind.TheVariants.{Basic as basic, Constraint as constraint, Choice as choice, Weight as weight}
 
 -- the number by which a sheet writes the kind
 abbrev pub kind_number : Kind → ℕ
@@ -15,6 +12,19 @@ kind_number basic = 1
 kind_number constraint = 2
 kind_number choice = 3
 kind_number weight = 5
+
+-- the kind of a number that is a kind's; of any other, a weight rule's
+unfoldable pub kind_of : ℕ → Kind
+kind_of w =
+    pick (eqb w (kind_number choice)) choice
+    (pick (eqb w (kind_number basic)) basic (pick (eqb w (kind_number constraint)) constraint weight))
+
+-- the kind of this number, where it is a kind's
+unfoldable pub checked_kind : ℕ → Option Kind
+checked_kind w =
+    pick (eqb w (kind_number basic)) (Some basic)
+    (pick (eqb w (kind_number constraint)) (Some constraint)
+    (pick (eqb w (kind_number choice)) (Some choice) (pick (eqb w (kind_number weight)) (Some weight) None)))
 
 -- a choice rule may give its heads; every other rule must
 abbrev pub chooses : Kind → Bool
@@ -88,24 +98,24 @@ atoms_of ls = map (λ l. l.atom) ls
 abbrev pub weights_of : List Weighted → List ℕ
 weights_of ls = map (λ l. l.weight) ls
 
--- the i-th of a list, from 0, or nothing where the list does not go so far
-unfoldable pub item_of : List ℕ → ℕ → Item
-item_of xs i = pick (ltb i (length xs)) (item (get_or xs i 0)) nothing
+-- the i-th of a list, from 0, or None where the list does not go so far
+unfoldable pub item_of : List ℕ → ℕ → Option ℕ
+item_of xs i = pick (ltb i (length xs)) (Some (get_or xs i 0)) None
 
 -- "Read a rule by its number: its kind, heads, need, body and weights." The parts by number: 0 kind, 1 need, 2 head count, 3 head,
 -- 4 positive count, 5 positive atom, 6 its weight, 7 negative count, 8 negative atom, 9 its weight
-unfoldable pub part_of : Rule → ℕ → ℕ → Item
+unfoldable pub part_of : Rule → ℕ → ℕ → Option ℕ
 part_of r p i =
-    pick (eqb p 0) (item (kind_number r.kind))
-    (pick (eqb p 1) (item r.need)
-    (pick (eqb p 2) (item (length r.heads))
+    pick (eqb p 0) (Some (kind_number r.kind))
+    (pick (eqb p 1) (Some r.need)
+    (pick (eqb p 2) (Some (length r.heads))
     (pick (eqb p 3) (item_of r.heads i)
-    (pick (eqb p 4) (item (length r.pos))
+    (pick (eqb p 4) (Some (length r.pos))
     (pick (eqb p 5) (item_of (atoms_of r.pos) i)
     (pick (eqb p 6) (item_of (weights_of r.pos) i)
-    (pick (eqb p 7) (item (length r.neg))
+    (pick (eqb p 7) (Some (length r.neg))
     (pick (eqb p 8) (item_of (atoms_of r.neg) i)
-    (pick (eqb p 9) (item_of (weights_of r.neg) i) nothing)))))))))
+    (pick (eqb p 9) (item_of (weights_of r.neg) i) None)))))))))
 
 -- two lists with the same elements, in any order and with any repeats
 pub record SameSet {A : Type 0} (xs ys : List A) : Type 0 where

@@ -4,25 +4,14 @@
 ghost use Rattle.std.specs.Prelude.{◌≡◌};
 ghost use Rattle.rules.specs.Number.{checked_atom, checked_rule};
 
-pub mod kind;
+mod kind;
 
-// One of a list, or nothing where the list does not go so far.
-#[derive(Clone, Copy)]
-pub enum Item {
-    Is(usize),
-    Nothing,
-}
+pub use kind::Kind;
 
 // An atom of a sheet, 1 to the sheet's atom count. Only `checked` makes one.
-#[derive(Clone, Copy)]
+#[derive(Clone, Copy, Debug, PartialEq, Eq)]
 pub struct Atom {
     number: usize,
-}
-
-#[derive(Clone, Copy)]
-pub enum AtomOr {
-    Is(Atom),
-    Not,
 }
 
 impl Atom {
@@ -31,16 +20,16 @@ impl Atom {
     pub const LAST: usize = 512;
 
     // The atom of this number, where the sheet has n atoms and this is one of them.
-    pub fn checked(number: usize, n: usize) -> AtomOr
+    pub fn checked(number: usize, n: usize) -> Option<Atom>
         ensures { result ≡ checked_atom n number }
     {
         if number < Atom::FIRST {
-            return AtomOr::Not;
+            return None;
         }
         if n < number {
-            return AtomOr::Not;
+            return None;
         }
-        AtomOr::Is(Atom { number })
+        Some(Atom { number })
     }
 
     pub fn number(self) -> usize
@@ -51,15 +40,9 @@ impl Atom {
 }
 
 // A rule of a sheet by its place, 1 to the sheet's rule count. Only `checked` makes one.
-#[derive(Clone, Copy)]
+#[derive(Clone, Copy, Debug, PartialEq, Eq)]
 pub struct RuleNo {
     number: usize,
-}
-
-#[derive(Clone, Copy)]
-pub enum RuleOr {
-    Is(RuleNo),
-    Not,
 }
 
 impl RuleNo {
@@ -68,16 +51,16 @@ impl RuleNo {
     pub const LAST: usize = 2048;
 
     // The rule of this number, where the sheet has count rules and this is one of them.
-    pub fn checked(number: usize, count: usize) -> RuleOr
+    pub fn checked(number: usize, count: usize) -> Option<RuleNo>
         ensures { result ≡ checked_rule count number }
     {
         if number < RuleNo::FIRST {
-            return RuleOr::Not;
+            return None;
         }
         if count < number {
-            return RuleOr::Not;
+            return None;
         }
-        RuleOr::Is(RuleNo { number })
+        Some(RuleNo { number })
     }
 
     pub fn number(self) -> usize

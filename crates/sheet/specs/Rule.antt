@@ -6,7 +6,8 @@
 -- A body is a list of positive atoms and then a list of negated atoms. A bound is any number."
 -- Refusal 5: "kind not 1, 2, 3, 5", at its first byte.
 use Rattle.std.specs.Prelude.{ℕ, Bool, true, false, List, eqb}
-use Rattle.rules.specs.Rule.{basic, constraint, choice, weight, kind_number}
+use Rattle.rules.specs.Rule.{kind_number}
+use Rattle.rules.specs.declared.kind.Kind.TheVariants.{Basic as basic, Constraint as constraint, Choice as choice, Weight as weight}
 use Rattle.rules.specs.Number.{checked_atom}
 use Rattle.rules.specs.Sum.{pick}
 use Rattle.rules.specs.declared.Atom.{Atom}

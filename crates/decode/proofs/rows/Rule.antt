@@ -10,7 +10,8 @@ use lib.ListN.{length, length-map}
 use borrow.Author.Tests.{eq-eqb, ne_eqb}
 use Rattle.rules.specs.Sum.{pick}
 use Rattle.rules.specs.Limits.{number_most}
-use Rattle.rules.specs.Rule.{Rule, one, ones, kind_number, choice, weight}
+use Rattle.rules.specs.Rule.{Rule, one, ones, kind_number}
+use Rattle.rules.specs.declared.kind.Kind.TheVariants.{Choice as choice, Weight as weight}
 use Rattle.numbers.specs.Number.{taken_at}
 use Rattle.numbers.specs.declared.Span.{Span}
 use Rattle.numbers.proofs.number.Taken.{taken_most}

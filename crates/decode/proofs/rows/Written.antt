@@ -5,7 +5,9 @@ use mathlib.Core.List.{List, [], ◌∷◌}
 use native.Mathlib.Omega.{arith}
 use native.Mathlib.Nat.{add-zero}
 use lib.ListN.{length, get_or, length-map}
-use Rattle.rules.specs.Rule.{Rule, Kind, basic, constraint, choice, weight, kind_number, ones, atoms_of}
+use Rattle.rules.specs.Rule.{Rule, kind_number, ones, atoms_of}
+use Rattle.rules.specs.declared.kind.Kind.{Kind}
+use Rattle.rules.specs.declared.kind.Kind.TheVariants.{Basic as basic, Constraint as constraint, Choice as choice, Weight as weight}
 use Rattle.sheet.specs.Shown.Encode.{rules_size}
 use Rattle.sheet.proofs.rule.Apart.{ones_atoms}
 use Rattle.table.specs.Inner.Words.{row_width, pair_width, word_at, seg, seg_atoms}

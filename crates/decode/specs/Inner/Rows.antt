@@ -3,7 +3,8 @@
 use Rattle.std.specs.Prelude.{ℕ, ◌+◌, ◌*◌, ◌≤◌, ◌<◌, ◌≡◌, Bool, eqb, length, get_or, set}
 use mathlib.Core.List.{List, [], ◌∷◌, Memᴰ}
 use Rattle.rules.specs.Limits.{number_most}
-use Rattle.rules.specs.Rule.{Rule, Sheet, weight, kind_number, choice_rule, ones, no_rule}
+use Rattle.rules.specs.Rule.{Rule, Sheet, kind_number, choice_rule, ones, no_rule}
+use Rattle.rules.specs.declared.kind.Kind.TheVariants.{Weight as weight}
 use Rattle.numbers.specs.declared.Span.{Span}
 use Rattle.sheet.specs.Shown.Encode.{rules_size}
 use Rattle.table.specs.Inner.Words.{row_width, pair_width, seg}

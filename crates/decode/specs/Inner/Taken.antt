@@ -3,7 +3,8 @@
 -- and the place after it.
 use Rattle.std.specs.Prelude.{ℕ, zero, suc, ◌+◌, Bool, true, List, [], ◌∷◌, eqb, length}
 use Rattle.rules.specs.Sum.{pick}
-use Rattle.rules.specs.Rule.{Rule, Weighted, constraint, choice, weight, kind_number, ones}
+use Rattle.rules.specs.Rule.{Rule, Weighted, kind_number, ones}
+use Rattle.rules.specs.declared.kind.Kind.TheVariants.{Constraint as constraint, Choice as choice, Weight as weight}
 use Rattle.numbers.specs.Answer.{span}
 use Rattle.numbers.specs.Number.{taken_at}
 use Rattle.numbers.specs.Lists.{numbers_from}

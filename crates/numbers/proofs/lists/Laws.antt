@@ -7,29 +7,28 @@ use Rattle.numbers.specs.Answer.{read_then}
 use Rattle.numbers.specs.Lists.{in_turn, up_to}
 use Rattle.numbers.specs.declared.Refusal.{Refusal}
 use Rattle.numbers.specs.declared.Span.{Span}
-use Rattle.numbers.specs.declared.Read.{Read}
-use Rattle.numbers.specs.declared.Read.TheVariants.{Got, Refused}
 use Rattle.numbers.proofs.Answer.{one_left}
+use Rattle.std.specs.Prelude.{Result, Ok, Err}
 
-module _ (step : ℕ → ℕ → Read) (n k before : ℕ) (done : Span) {r : Read} (left : in_turn step (n - k) before done ≡ r) where
+module _ (step : ℕ → ℕ → Result Span Refusal) (n k before : ℕ) (done : Span) {r : Result Span Refusal} (left : in_turn step (n - k) before done ≡ r) where
   opened : k < n → in_turn step (suc (n - (k + 1))) before done ≡ r
   opened h = ap (λ (m : ℕ). in_turn step m before done) (sym (one_left n k h)) ∙ left
 
-  module _ (h : k < n) {x : Read} (e : x ≡ step before done.next) where
-    pub turn : (one : Span) → x ≡ Got one → in_turn step (n - (k + 1)) one.value (up_to done one.next) ≡ r
+  module _ (h : k < n) {x : Result Span Refusal} (e : x ≡ step before done.next) where
+    pub turn : (one : Span) → x ≡ Ok one → in_turn step (n - (k + 1)) one.value (up_to done one.next) ≡ r
     unfolding in_turn read_then
     turn one g =
-        ap (λ (t : Read). read_then Refused t (λ one. in_turn step (n - (k + 1)) one.value (up_to done one.next))) (sym g ∙ e)
+        ap (λ (t : Result Span Refusal). read_then Err t (λ one. in_turn step (n - (k + 1)) one.value (up_to done one.next))) (sym g ∙ e)
         ∙ opened h
 
-    pub turn_out : (why : Refusal) → x ≡ Refused why → x ≡ r
+    pub turn_out : (why : Refusal) → x ≡ Err why → x ≡ r
     unfolding in_turn read_then
     turn_out why g =
         g
-        ∙ ap (λ (t : Read). read_then Refused t (λ one. in_turn step (n - (k + 1)) one.value (up_to done one.next))) (sym g ∙ e)
+        ∙ ap (λ (t : Result Span Refusal). read_then Err t (λ one. in_turn step (n - (k + 1)) one.value (up_to done one.next))) (sym g ∙ e)
         ∙ opened h
 
-  pub turned : n ≤ k → Got done ≡ r
+  pub turned : n ≤ k → Ok done ≡ r
   unfolding in_turn
   turned h =
       let z : 0 ≡ n - k = omega arith in

@@ -8,12 +8,12 @@ use lib.ListN.{length}
 use Rattle.numbers.specs.Number.{number_at, taken_at}
 use Rattle.numbers.specs.Lists.{numbers_from}
 use Rattle.numbers.specs.declared.Span.{Span}
-use Rattle.numbers.specs.declared.Read.TheVariants.{Got}
 use Rattle.numbers.proofs.Answer.{one_left}
 use Rattle.numbers.proofs.number.Taken.{taken_read}
+use Rattle.std.specs.Prelude.{Ok}
 
 pub numbers_more :
-    (s : List ℕ) (left at : ℕ) (p : Span) → number_at s at ≡ Got p
+    (s : List ℕ) (left at : ℕ) (p : Span) → number_at s at ≡ Ok p
     → numbers_from (suc left) s at ≡ p.value ∷ numbers_from left s p.next
 unfolding numbers_from
 numbers_more s left at p e = ap (λ (q : Span). q.value ∷ numbers_from left s q.next) (taken_read s at p e)

@@ -13,14 +13,14 @@ use Rattle.numbers.specs.Number.{number_at, within_at}
 use Rattle.numbers.specs.Lists.{atom_at, in_turn, list_at, numbers_from, numbers_of}
 use Rattle.numbers.specs.Shown.Encode.{number_bytes, numbers_bytes, list_bytes, IsBytes, Linked, none, more, Rises, Rising}
 use Rattle.numbers.specs.declared.Span.{Span}
-use Rattle.numbers.specs.declared.Read.{Read}
-use Rattle.numbers.specs.declared.Read.TheVariants.{Got, Refused}
 use Rattle.numbers.proofs.lists.Numbers.{numbers_count}
 use Rattle.numbers.proofs.Stands.{Stands, joined, stands_as}
 use Rattle.numbers.proofs.number.Most.{number_far}
 use Rattle.numbers.proofs.number.Encoded.{number_bytes_law, number_read, past}
 use Rattle.numbers.proofs.lists.Most.{listed}
 use Rattle.numbers.proofs.lists.Encoded.{ran, numbers_read, written, atom_sound, atom_complete}
+use Rattle.std.specs.Prelude.{Result, Ok, Err}
+use Rattle.numbers.specs.declared.Refusal.{Refusal}
 
 pub record ListRan (s : List ℕ) (least n at : ℕ) (p : Span) : Type 0 where
   pub rising : Rising n (numbers_of s p)
@@ -31,7 +31,7 @@ pub record ListRan (s : List ℕ) (least n at : ℕ) (p : Span) : Type 0 where
   pub ends : p.next ≤ length s
   pub bytes : IsBytes s → Stands s at (list_bytes (numbers_of s p)) p.next
 
-pub list_ran : (s : List ℕ) (least n at : ℕ) (p : Span) → list_at s least n at ≡ Got p → ListRan s least n at p
+pub list_ran : (s : List ℕ) (least n at : ℕ) (p : Span) → list_at s least n at ≡ Ok p → ListRan s least n at p
 list_ran s least n at p e =
     let l = listed s least n at p e in
     let c = l.count in
@@ -60,8 +60,8 @@ rising_few n (more {x = x} a l) h =
     omega (arith, a.above, rising_few n l w)
 
 pub within_read :
-    (s : List ℕ) (least most at : ℕ) (p : Span) → number_at s at ≡ Got p → least ≤ p.value → p.value ≤ most
-    → within_at s least most at ≡ Got p
+    (s : List ℕ) (least most at : ℕ) (p : Span) → number_at s at ≡ Ok p → least ≤ p.value → p.value ≤ most
+    → within_at s least most at ≡ Ok p
 unfolding within_at read_then pick
 within_read s least most at p e l h = simp (e, le-ltb p.value least l, le-ltb most p.value h)
 
@@ -92,17 +92,17 @@ module _
     pub list_numbers : numbers_of s (list_span at xs) ≡ xs
     list_numbers = numbers_read s (Rises n) small rising (at + length (number_bytes (length xs))) q atoms_at
 
-    pub list_read : least ≤ length xs → list_at s least n at ≡ Got (list_span at xs)
+    pub list_read : least ≤ length xs → list_at s least n at ≡ Ok (list_span at xs)
     unfolding list_at read_then
     list_read l =
         let first : ℕ = at + length (number_bytes (length xs)) in
         let count : Span = span (length xs) at first in
         let z : first + length (numbers_bytes xs) ≡ at + length (list_bytes xs) =
         omega (arith, length-append (number_bytes (length xs)) (numbers_bytes xs)) in
-        ap (λ (a : Read). read_then Refused a (λ count. in_turn (atom_at s n) count.value 0 (span count.value count.next count.next)))
+        ap (λ (a : Result Span Refusal). read_then Err a (λ count. in_turn (atom_at s n) count.value 0 (span count.value count.next count.next)))
         (within_read s least n at count (number_read s at (length xs) (numbers_bytes xs ++ q) (omega (arith, few)) split) l few)
         ∙ written s (Rises n) small (atom_at s n) (atom_complete s n) rising (span (length xs) first first) q atoms_at
-        ∙ ap (λ (k : ℕ). Got (span (length xs) first k)) z
+        ∙ ap (λ (k : ℕ). Ok (span (length xs) first k)) z
 
     pub list_past_law : drop (at + length (list_bytes xs)) s ≡ q
     list_past_law = past s (list_bytes xs) q at d

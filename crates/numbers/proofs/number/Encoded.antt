@@ -16,22 +16,23 @@ use Rattle.rules.specs.Sum.{pick}
 use Rattle.numbers.specs.Answer.{read_then, span}
 use Rattle.numbers.specs.Number.{groups_from, number_at}
 use Rattle.numbers.specs.Shown.Encode.{groups_of, number_bytes, IsBytes}
+use Rattle.numbers.specs.declared.Refusal.{Refusal}
 use Rattle.numbers.specs.declared.Span.{Span}
-use Rattle.numbers.specs.declared.Read.TheVariants.{Got}
-use Rattle.numbers.proofs.Answer.{not_got}
+use Rattle.numbers.proofs.Answer.{not_ok}
 use Rattle.numbers.proofs.Stands.{Stands}
 use Rattle.numbers.proofs.number.Most.{Groups, last, more, groups}
+use Rattle.std.specs.Prelude.{Result, Ok}
 
 -- a group after the first is no needless one, so what it is a part of is 1 at least
 groups_some :
-    (s : List ℕ) (left first at : ℕ) (p : Span) → groups_from left s first at ≡ Got p → first < at → 1 ≤ p.value
+    (s : List ℕ) (left first at : ℕ) (p : Span) → groups_from left s first at ≡ Ok p → first < at → 1 ≤ p.value
 unfolding groups_from
-groups_some s zero first at p e h = absurd (not_got _ e)
+groups_some s zero first at p e h = absurd (not_ok _ e)
 groups_some s (suc left) first at p e h =
     by (groups s left first at p e) (λ high z. groups_some s left first (at + 1) high z (omega arith))
   where
     by :
-        Groups s left first at p → ((high : Span) → groups_from left s first (at + 1) ≡ Got high → 1 ≤ high.value)
+        Groups s left first at p → ((high : Span) → groups_from left s first (at + 1) ≡ Ok high → 1 ≤ high.value)
         → 1 ≤ p.value
     by (last l b z w) some =
         let v : get_or s at 0 ≡ p.value = ap (λ (q : Span). q.value) w in
@@ -50,16 +51,16 @@ module _ (low high : ℕ) (l : low < 128) where
   high_is = omega arith
 
 groups_bytes :
-    (s : List ℕ) → IsBytes s → (left first at : ℕ) (p : Span) → groups_from left s first at ≡ Got p → first ≤ at
+    (s : List ℕ) → IsBytes s → (left first at : ℕ) (p : Span) → groups_from left s first at ≡ Ok p → first ≤ at
     → drop at s ≡ groups_of left p.value ++ drop p.next s
 unfolding groups_from groups_of pick
-groups_bytes s is zero first at p e h = absurd (not_got _ e)
+groups_bytes s is zero first at p e h = absurd (not_ok _ e)
 groups_bytes s is (suc left) first at p e h =
     by (groups s left first at p e) (λ high z. groups_bytes s is left first (at + 1) high z (omega arith))
   where
     by :
         Groups s left first at p
-        → ((high : Span) → groups_from left s first (at + 1) ≡ Got high
+        → ((high : Span) → groups_from left s first (at + 1) ≡ Ok high
         → drop (at + 1) s ≡ groups_of left high.value ++ drop high.next s)
         → drop at s ≡ groups_of (suc left) p.value ++ drop p.next s
     by (last l b z w) rest =
@@ -76,7 +77,7 @@ groups_bytes s is (suc left) first at p e h =
         (simp (wide, low, up) (rw (← rest high z, add-one) (drop-cons s at 0 l)))
 
 pub number_bytes_law :
-    (s : List ℕ) → IsBytes s → (at : ℕ) (p : Span) → number_at s at ≡ Got p → Stands s at (number_bytes p.value) p.next
+    (s : List ℕ) → IsBytes s → (at : ℕ) (p : Span) → number_at s at ≡ Ok p → Stands s at (number_bytes p.value) p.next
 unfolding number_at number_bytes
 number_bytes_law s is at p e = record { is = groups_bytes s is 4 at at p e (omega arith) }
 
@@ -109,12 +110,12 @@ not_needless first at v some = by (ltb first at) refl
 regrouped : (v : ℕ) → (128 + v % 128) % 128 + 128 * (v / 128) ≡ v
 regrouped v = omega arith
 
-same_number : (first a b c d : ℕ) → a ≡ b → c ≡ d → Got (span a first c) ≡ Got (span b first d)
+same_number : (first a b c d : ℕ) → a ≡ b → c ≡ d → ◌≡◌ {A = Result Span Refusal} (Ok (span a first c)) (Ok (span b first d))
 same_number first a b c d e f = cc
 
 read_last :
     (s : List ℕ) (left first at v : ℕ) (q : List ℕ) → v < 128 → (first < at → 1 ≤ v) → drop at s ≡ groups_of (suc left) v ++ q
-    → groups_from (suc left) s first at ≡ Got (span v first (at + length (groups_of (suc left) v)))
+    → groups_from (suc left) s first at ≡ Ok (span v first (at + length (groups_of (suc left) v)))
 unfolding groups_from groups_of pick
 read_last s left first at v q small some d =
     let yes' : ltb v 128 ≡ true = lt-ltb v 128 small in
@@ -124,8 +125,8 @@ read_last s left first at v q small some d =
 read_more :
     (s : List ℕ) (left first at v : ℕ) (q : List ℕ) → 128 ≤ v → drop at s ≡ groups_of (suc left) v ++ q
     → (drop (at + 1) s ≡ groups_of left (v / 128) ++ q
-    → groups_from left s first (at + 1) ≡ Got (span (v / 128) first (at + 1 + length (groups_of left (v / 128)))))
-    → groups_from (suc left) s first at ≡ Got (span v first (at + length (groups_of (suc left) v)))
+    → groups_from left s first (at + 1) ≡ Ok (span (v / 128) first (at + 1 + length (groups_of left (v / 128)))))
+    → groups_from (suc left) s first at ≡ Ok (span v first (at + length (groups_of (suc left) v)))
 unfolding groups_from groups_of pick read_then
 read_more s left first at v q wide d rest =
     let no' : ltb v 128 ≡ false = le-ltb v 128 wide in
@@ -142,7 +143,7 @@ read_more s left first at v q wide d rest =
 groups_read :
     (s : List ℕ) (left first at v : ℕ) (q : List ℕ) → v < 128 ^ suc left → first ≤ at → (first < at → 1 ≤ v)
     → drop at s ≡ groups_of (suc left) v ++ q
-    → groups_from (suc left) s first at ≡ Got (span v first (at + length (groups_of (suc left) v)))
+    → groups_from (suc left) s first at ≡ Ok (span v first (at + length (groups_of (suc left) v)))
 groups_read s zero first at v q m o some d = read_last s zero first at v q m some d
 groups_read s (suc left) first at v q m o some d =
     by (ltb v 128) refl (λ t e. groups_read s left first (at + 1) (v / 128) q t (omega arith) (λ z. e))
@@ -150,13 +151,13 @@ groups_read s (suc left) first at v q m o some d =
     by :
         (b : Bool) → ltb v 128 ≡ b
         → (v / 128 < 128 ^ suc left → 1 ≤ v / 128 → drop (at + 1) s ≡ groups_of (suc left) (v / 128) ++ q
-        → groups_from (suc left) s first (at + 1) ≡ Got (span (v / 128) first (at + 1 + length (groups_of (suc left) (v / 128)))))
-        → groups_from (suc (suc left)) s first at ≡ Got (span v first (at + length (groups_of (suc (suc left)) v)))
+        → groups_from (suc left) s first (at + 1) ≡ Ok (span (v / 128) first (at + 1 + length (groups_of (suc left) (v / 128)))))
+        → groups_from (suc (suc left)) s first at ≡ Ok (span v first (at + length (groups_of (suc (suc left)) v)))
     by true b rest = read_last s (suc left) first at v q (ltb-true v 128 b) some d
     by false b rest = read_more s (suc left) first at v q (ltb-false v 128 b) d (rest (omega (arith, pow-suc 128 (suc left))) (omega (arith, ltb-false v 128 b)))
 
 pub number_read :
     (s : List ℕ) (at v : ℕ) (q : List ℕ) → v ≤ number_most → drop at s ≡ number_bytes v ++ q
-    → number_at s at ≡ Got (span v at (at + length (number_bytes v)))
+    → number_at s at ≡ Ok (span v at (at + length (number_bytes v)))
 unfolding number_at number_bytes number_most
 number_read s at v q m d = groups_read s 3 at at v q (omega arith) (omega arith) (λ z. omega arith) d

@@ -9,28 +9,28 @@ use lib.ListN.{length, get_or}
 use lib.Dec.{lit<}
 use borrow.Author.Tests.{lt-ltb, le-ltb, ne_eqb}
 use Rattle.rules.specs.Sum.{pick}
-use Rattle.numbers.specs.Answer.{read_then, span, refusal}
+use Rattle.numbers.specs.Answer.{EndsEarly, NotShortest, FourthByte, read_then, span, refusal}
 use Rattle.numbers.specs.Number.{groups_from, number_at, higher, taken_from, taken_at}
 use Rattle.numbers.specs.declared.Span.{Span}
-use Rattle.numbers.specs.declared.Read.{Read}
-use Rattle.numbers.specs.declared.Read.TheVariants.{Got, Refused}
 use Rattle.numbers.proofs.Answer.{one_left}
+use Rattle.std.specs.Prelude.{Result, Ok, Err}
+use Rattle.numbers.specs.declared.Refusal.{Refusal}
 
 -- a number whose groups before these make up the sum
 abbrev pub raised : ℕ → ℕ → Span → Span
 raised sum scale p = span (sum + p.value * scale) p.first p.next
 
-unfoldable pub scaled : ℕ → ℕ → Read → Read
-scaled sum scale (Got p) = Got (raised sum scale p)
-scaled sum scale (Refused why) = Refused why
+unfoldable pub scaled : ℕ → ℕ → Result Span Refusal → Result Span Refusal
+scaled sum scale (Ok p) = Ok (raised sum scale p)
+scaled sum scale (Err why) = Err why
 
 raised_once : (p : Span) → raised 0 1 p ≡ p
 raised_once p = ap (λ (v : ℕ). span v p.first p.next) (omega arith)
 
-scaled_once : (a : Read) → scaled 0 1 a ≡ a
+scaled_once : (a : Result Span Refusal) → scaled 0 1 a ≡ a
 unfolding scaled
-scaled_once (Got p) = ap (λ (q : Span). Got q) (raised_once p)
-scaled_once (Refused why) = refl
+scaled_once (Ok p) = ap (λ (q : Span). Ok q) (raised_once p)
+scaled_once (Err why) = refl
 
 raised_more : (sum scale low : ℕ) (p : Span) → raised sum scale (higher low p) ≡ raised (sum + low * scale) (scale * 128) p
 raised_more sum scale low p = ap (λ (v : ℕ). span v p.first p.next) (regroup p.value)
@@ -42,11 +42,11 @@ raised_more sum scale low p = ap (λ (v : ℕ). span v p.first p.next) (regroup 
         omega arith
 
 scaled_more :
-    (sum scale low : ℕ) (a : Read)
-    → scaled sum scale (read_then Refused a (λ high. Got (higher low high))) ≡ scaled (sum + low * scale) (scale * 128) a
+    (sum scale low : ℕ) (a : Result Span Refusal)
+    → scaled sum scale (read_then Err a (λ high. Ok (higher low high))) ≡ scaled (sum + low * scale) (scale * 128) a
 unfolding scaled read_then
-scaled_more sum scale low (Got p) = ap (λ (q : Span). Got q) (raised_more sum scale low p)
-scaled_more sum scale low (Refused why) = refl
+scaled_more sum scale low (Ok p) = ap (λ (q : Span). Ok q) (raised_more sum scale low p)
+scaled_more sum scale low (Err why) = refl
 
 -- how far the scale and the sum can grow in four groups
 pub scale_most : (k scale : ℕ) → k < 4 → scale ≤ 128 ^ k → scale ≤ 128 ^ 3
@@ -65,25 +65,25 @@ pub scale_grows : (k scale : ℕ) → scale ≤ 128 ^ k → scale * 128 ≤ 128 
 scale_grows k scale w = rw (add-one, pow-suc) (mul-le-mul_right 128 w)
 
 module _ (s : List ℕ) (k first at sum scale : ℕ) where
-  unfoldable pub here : Read
+  unfoldable pub here : Result Span Refusal
   here = scaled sum scale (groups_from (4 - k) s first at)
 
   opened : k < 4 → here ≡ scaled sum scale (groups_from (suc (4 - (k + 1))) s first at)
   unfolding here
   opened h = ap (λ (left : ℕ). scaled sum scale (groups_from left s first at)) (one_left 4 k h)
 
-  pub ended : k < 4 → length s ≤ at → Refused (refusal 1 (length s)) ≡ here
+  pub ended : k < 4 → length s ≤ at → Err (refusal EndsEarly (length s)) ≡ here
   unfolding scaled groups_from pick
   ended h e = simp (opened h, le-ltb _ _ e)
 
   module _ (h : k < 4) (l : at < length s) (group : ℕ) (g : group ≡ get_or s at 0) where
-    pub needless : first < at → group ≡ 0 → Refused (refusal 2 first) ≡ here
+    pub needless : first < at → group ≡ 0 → Err (refusal NotShortest first) ≡ here
     unfolding scaled groups_from pick
     needless f z =
         let e : get_or s at 0 ≡ 0 = sym g ∙ z in
         simp (opened h, lt-ltb _ _ l, e, lt-ltb _ _ f)
 
-    pub last : first < at → group < 128 → (group ≡ 0 → ⊥) → Got (span (sum + group % 128 * scale) first (at + 1)) ≡ here
+    pub last : first < at → group < 128 → (group ≡ 0 → ⊥) → Ok (span (sum + group % 128 * scale) first (at + 1)) ≡ here
     unfolding scaled groups_from pick
     last f b z = simp (opened h, lt-ltb _ _ l, ← g, lt-ltb _ _ b, lt-ltb _ _ f, ne_eqb _ _ z, mod-eq_of_lt b)
 
@@ -108,7 +108,7 @@ started s first byte l g b w =
     ∙ more s 0 first first 0 1 (omega arith) l byte g b
     ∙ start s first
 
-pub spent : (s : List ℕ) (k first at sum scale : ℕ) → 4 ≤ k → Refused (refusal 15 first) ≡ here s k first at sum scale
+pub spent : (s : List ℕ) (k first at sum scale : ℕ) → 4 ≤ k → Err (refusal FourthByte first) ≡ here s k first at sum scale
 unfolding here scaled groups_from
 spent s k first at sum scale h =
     let e : 0 ≡ 4 - k = omega arith in

@@ -14,22 +14,22 @@ use Rattle.rules.specs.Sum.{pick}
 use Rattle.numbers.specs.Answer.{span}
 use Rattle.numbers.specs.Number.{groups_from, number_at, higher, taken_from, taken_at}
 use Rattle.numbers.specs.declared.Span.{Span}
-use Rattle.numbers.specs.declared.Read.TheVariants.{Got}
-use Rattle.numbers.proofs.Answer.{not_got}
+use Rattle.numbers.proofs.Answer.{not_ok}
 use Rattle.numbers.proofs.number.Most.{Groups, last, more, groups}
+use Rattle.std.specs.Prelude.{Ok}
 
-groups_taken : (s : List ℕ) (left first at : ℕ) (p : Span) → groups_from left s first at ≡ Got p → taken_from left s first at ≡ p
+groups_taken : (s : List ℕ) (left first at : ℕ) (p : Span) → groups_from left s first at ≡ Ok p → taken_from left s first at ≡ p
 unfolding groups_from taken_from pick
-groups_taken s zero first at p e = absurd (not_got _ e)
+groups_taken s zero first at p e = absurd (not_ok _ e)
 groups_taken s (suc left) first at p e = by (groups s left first at p e) (λ high z. groups_taken s left first (at + 1) high z)
   where
     by :
-        Groups s left first at p → ((high : Span) → groups_from left s first (at + 1) ≡ Got high → taken_from left s first (at + 1) ≡ high)
+        Groups s left first at p → ((high : Span) → groups_from left s first (at + 1) ≡ Ok high → taken_from left s first (at + 1) ≡ high)
         → taken_from (suc left) s first at ≡ p
     by (last l b z w) taken = simp (lt-ltb at (length s) l, lt-ltb (get_or s at 0) 128 b) w
     by (more l b high z w) taken = simp (lt-ltb at (length s) l, le-ltb (get_or s at 0) 128 b, taken high z) w
 
-pub taken_read : (s : List ℕ) (at : ℕ) (p : Span) → number_at s at ≡ Got p → taken_at s at ≡ p
+pub taken_read : (s : List ℕ) (at : ℕ) (p : Span) → number_at s at ≡ Ok p → taken_at s at ≡ p
 unfolding number_at taken_at
 taken_read s at p e = groups_taken s 4 at at p e
 

@@ -1,36 +1,26 @@
--- The lesser of two numbers is at most each of them. So the bytes up to `past_bytes` are there, and no more than were asked for. A number
--- of one byte is read straight; and where it is one that its place in a run allows, the run goes on after it.
-use Prim.Native.Nat.{ℕ, ◌+◌, ◌-◌, ◌≤◌, ◌<◌}
+-- The bytes up to `past_bytes` are there, and no more than were asked for. A number of one byte is read straight; and where it is one that
+-- its place in a run allows, the run goes on after it.
+use Prim.Native.Nat.{ℕ, ◌+◌, ◌-◌, ◌≤◌, ◌<◌, min}
 use mathlib.Core.Path.{◌≡◌, refl, sym, ap, subst, ◌∙◌}
-use mathlib.Core.Bool.{Bool, true, false}
 use mathlib.Core.List.{List}
 use native.Mathlib.Omega.{arith}
 use lib.ListN.{length, get_or}
-use lib.Dec.{ltb}
-use borrow.Author.Tests.{lt-ltb, le-ltb, lt-leb, ltb-true, ltb-false}
+use borrow.Author.Tests.{lt-ltb, le-ltb, lt-leb}
 use Rattle.rules.specs.Sum.{pick}
 use Rattle.rules.proofs.Inside.{atom_made}
-use Rattle.numbers.specs.Answer.{span, read_then, atom_then}
+use Rattle.numbers.specs.Answer.{span, read_then}
 use Rattle.numbers.specs.Number.{groups_from, number_at}
 use Rattle.numbers.specs.Lists.{atom_at, in_turn}
-use Rattle.numbers.specs.Inner.Short.{lesser, past_bytes, Ahead}
+use Rattle.numbers.specs.Inner.Short.{past_bytes, Ahead}
 use Rattle.numbers.specs.declared.Span.{Span}
-use Rattle.numbers.specs.declared.Read.{Read}
-use Rattle.numbers.specs.declared.Read.TheVariants.{Got}
 use Rattle.numbers.proofs.lists.Laws.{turn}
-
-pub lesser_is : (a b : ℕ) → (lesser a b ≤ a) × (lesser a b ≤ b)
-unfolding lesser pick
-lesser_is a b = by (ltb a b) refl
-  where
-    by : (t : Bool) → ltb a b ≡ t → (pick t a b ≤ a) × (pick t a b ≤ b)
-    by true e = (omega arith, omega (arith, ltb-true a b e))
-    by false e = (omega (arith, ltb-false a b e), omega arith)
+use Rattle.std.specs.Prelude.{Result, Ok}
+use Rattle.numbers.specs.declared.Refusal.{Refusal}
 
 module _ (s : List ℕ) (count first : ℕ) where
   pub past_few : past_bytes s count first ≤ first + count
   unfolding past_bytes
-  past_few = omega (arith, lesser_is count (length s - first))
+  past_few = omega arith
 
   pub past_from : first ≤ past_bytes s count first
   unfolding past_bytes
@@ -38,14 +28,14 @@ module _ (s : List ℕ) (count first : ℕ) where
 
   pub past_there : (at : ℕ) → first ≤ at → at < past_bytes s count first → at < length s
   unfolding past_bytes
-  past_there at h l = omega (arith, lesser_is count (length s - first))
+  past_there at h l = omega arith
 
 pub byte_read :
-    (s : List ℕ) (at byte : ℕ) → at < length s → byte ≡ get_or s at 0 → byte < 128 → number_at s at ≡ Got (span byte at (at + 1))
+    (s : List ℕ) (at byte : ℕ) → at < length s → byte ≡ get_or s at 0 → byte < 128 → number_at s at ≡ Ok (span byte at (at + 1))
 unfolding number_at groups_from pick
 byte_read s at byte l g b = simp (lt-ltb at (length s) l, ← g, lt-ltb byte 128 b, le-ltb at at (omega arith))
 
-module _ (step : ℕ → ℕ → Read) (count first : ℕ) where
+module _ (step : ℕ → ℕ → Result Span Refusal) (count first : ℕ) where
   pub none_ahead : Ahead step count first 0 first
   none_ahead =
       let z : count - (first - first) ≡ count = omega arith in
@@ -56,7 +46,7 @@ module _ (step : ℕ → ℕ → Read) (count first : ℕ) where
       }
 
   pub one_ahead :
-      (before at value : ℕ) → Ahead step count first before at → at < first + count → step before at ≡ Got (span value at (at + 1))
+      (before at value : ℕ) → Ahead step count first before at → at < first + count → step before at ≡ Ok (span value at (at + 1))
       → Ahead step count first value (at + 1)
   one_ahead before at value a l e =
       let h = a.begun in
@@ -71,17 +61,17 @@ module _ (step : ℕ → ℕ → Read) (count first : ℕ) where
 
 -- a byte that is an atom above the one before, and as one more of a run of atoms
 atom_read :
-    (s : List ℕ) (n above at atom : ℕ) → at < length s → atom ≡ get_or s at 0 → above < atom → atom ≤ lesser n 127
-    → atom_at s n above at ≡ Got (span atom at (at + 1))
-unfolding atom_at read_then atom_then pick
+    (s : List ℕ) (n above at atom : ℕ) → at < length s → atom ≡ get_or s at 0 → above < atom → atom ≤ min n 127
+    → atom_at s n above at ≡ Ok (span atom at (at + 1))
+unfolding atom_at read_then pick
 atom_read s n above at atom l g low high =
     simp (
-      byte_read s at atom l g (omega (arith, lesser_is n 127)),
-      atom_made n atom (record { low = omega arith; high = omega (arith, lesser_is n 127) }),
+      byte_read s at atom l g (omega arith),
+      atom_made n atom (record { low = omega arith; high = omega arith }),
       lt-leb atom above low,
     )
 
-module _ (s : List ℕ) (n count first end most : ℕ) (e : end ≡ past_bytes s count first) (m : most ≡ lesser n 127) where
+module _ (s : List ℕ) (n count first end most : ℕ) (e : end ≡ past_bytes s count first) (m : most ≡ min n 127) where
   atom_ahead :
       (above at atom : ℕ) → Ahead (atom_at s n) count first above at → at < end → atom ≡ get_or s at 0 → above < atom → atom ≤ most
       → Ahead (atom_at s n) count first atom (at + 1)

@@ -1,7 +1,7 @@
 -- "Refusal 2 for a number not in its shortest form. A fourth byte with its top bit set is refusal 15, same place, whatever follows." "1: sheet
 -- ends inside or before a number that is due." What these say of the bytes, without a reader.
 use Rattle.std.specs.Prelude.{ℕ, ◌+◌, ◌≤◌, ◌<◌, ◌≡◌, List, length, get_or}
-use Rattle.numbers.specs.Answer.{refusal}
+use Rattle.numbers.specs.Answer.{EndsEarly, NotShortest, FourthByte, refusal}
 use Rattle.numbers.specs.declared.Refusal.{Refusal}
 
 -- so many bytes from a place on are there, each with its top bit set
@@ -10,8 +10,8 @@ RunsOn s at count = (i : ℕ) → i < count → (at + i < length s) × (128 ≤ 
 
 -- why the number at a place is refused
 pub data NumberRefused (s : List ℕ) (at : ℕ) : Refusal → Type 0 where
-  ends : (count : ℕ) → count < 4 → RunsOn s at count → length s ≤ at + count → NumberRefused s at (refusal 1 (length s))
+  ends : (count : ℕ) → count < 4 → RunsOn s at count → length s ≤ at + count → NumberRefused s at (refusal EndsEarly (length s))
   padded :
       (count : ℕ) → 0 < count → count < 4 → RunsOn s at count → at + count < length s → get_or s (at + count) 0 ≡ 0
-      → NumberRefused s at (refusal 2 at)
-  large : RunsOn s at 4 → NumberRefused s at (refusal 15 at)
+      → NumberRefused s at (refusal NotShortest at)
+  large : RunsOn s at 4 → NumberRefused s at (refusal FourthByte at)

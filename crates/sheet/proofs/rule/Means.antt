@@ -6,7 +6,8 @@ use mathlib.Core.Bool.{Bool, true, false}
 use mathlib.Core.List.{List, [], ◌∷◌, ◌++◌}
 use native.Mathlib.Omega.{arith}
 use lib.ListN.{length, length-map}
-use Rattle.rules.specs.Rule.{Rule, basic, constraint, choice, weight, kind_number, one}
+use Rattle.rules.specs.Rule.{Rule, kind_number, one}
+use Rattle.rules.specs.declared.kind.Kind.TheVariants.{Basic as basic, Constraint as constraint, Choice as choice, Weight as weight}
 use Rattle.rules.specs.Stable.{weight_sum, Living}
 use Rattle.rules.specs.declared.Atom.{Atom}
 use Rattle.rules.proofs.Dead.{length_living}

@@ -6,7 +6,9 @@ use mathlib.Core.List.{List, [], ◌∷◌, flat_map, append-nil}
 use native.Mathlib.Omega.{arith}
 use lib.Dec.{eqb}
 use borrow.Author.Tests.{eqb-true}
-use Rattle.rules.specs.Rule.{Within, Kind, basic, constraint, choice, weight, kind_number}
+use Rattle.rules.specs.Rule.{Within, kind_number}
+use Rattle.rules.specs.declared.kind.Kind.{Kind}
+use Rattle.rules.specs.declared.kind.Kind.TheVariants.{Basic as basic, Constraint as constraint, Choice as choice, Weight as weight}
 use Rattle.rules.specs.Number.{checked_atom}
 use Rattle.rules.specs.Sum.{pick}
 use Rattle.rules.specs.declared.Atom.{Atom}

@@ -1,6 +1,7 @@
 -- "A rule is one of four kinds, each with its own head part": the head part as it is read, by itself, and then the body after it.
 use Rattle.std.specs.Prelude.{ℕ, Bool, List, eqb}
-use Rattle.rules.specs.Rule.{basic, constraint, choice, weight, kind_number}
+use Rattle.rules.specs.Rule.{kind_number}
+use Rattle.rules.specs.declared.kind.Kind.TheVariants.{Basic as basic, Constraint as constraint, Choice as choice, Weight as weight}
 use Rattle.rules.specs.Number.{checked_atom}
 use Rattle.rules.specs.Sum.{pick}
 use Rattle.rules.specs.declared.Atom.{Atom}

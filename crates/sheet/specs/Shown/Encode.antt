@@ -6,7 +6,9 @@
 use Rattle.std.specs.Prelude.{ℕ, ◌+◌, ◌≤◌, ◌≡◌, length}
 use mathlib.Core.List.{List, [], ◌∷◌, ◌++◌, flat_map, Memᴰ}
 use Rattle.rules.specs.Limits.{atoms_most, rules_most, weight_most, number_most}
-use Rattle.rules.specs.Rule.{Rule, Weighted, Sheet, Within, Kind, basic, constraint, choice, weight, basic_rule, constraint_rule, choice_rule, weight_rule, atoms_of, kind_number, weights_of}
+use Rattle.rules.specs.Rule.{Rule, Weighted, Sheet, Within, basic_rule, constraint_rule, choice_rule, weight_rule, atoms_of, kind_number, weights_of}
+use Rattle.rules.specs.declared.kind.Kind.{Kind}
+use Rattle.rules.specs.declared.kind.Kind.TheVariants.{Basic as basic, Constraint as constraint, Choice as choice, Weight as weight}
 use Rattle.rules.specs.Stable.{Living}
 use Rattle.numbers.specs.Shown.Encode.{number_bytes, numbers_bytes, list_bytes, Linked, Rising}
 

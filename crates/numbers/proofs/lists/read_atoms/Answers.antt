@@ -1,7 +1,9 @@
 -- `read_atoms` meets its contract: the atoms of one byte are passed first. The loop's invariant: the run of the atoms that are left, from here on, is the whole answer.
+use mathlib.Core.Path.{◌∙◌, ap}
 use native.Mathlib.Omega.{arith}
 use Rattle.numbers.proofs.lists.Laws.{turn, turn_out, turned}
 use Rattle.numbers.proofs.lists.read_atoms.Goals as goal
+use Rattle.std.specs.Prelude.{Ok}
 
 pub loop-init : goal.loop-init
 loop-init c = (omega arith, c.short_atoms-short.ensures.rest)
@@ -17,10 +19,11 @@ loop-preserved c =
     let l = c.loop in (
       omega arith,
       turn _ _ l.counter l.above _ l.invariant.1 c.loop-test.true
-          c.read_atom-got.ensures _ c.in-Got.is,
+          c.read_atom-got.ensures _ c.in-Ok.is,
     )
 
 pub returns : goal.returns
 returns c =
     let l = c.loop in
-    turned _ _ l.counter l.above _ l.invariant.1 c.loop-test.false
+    ap Ok c.new.ensures
+    ∙ turned _ _ l.counter l.above _ l.invariant.1 c.loop-test.false

@@ -24,28 +24,15 @@ bounds-s-at-in-loop-at c =
     let h = c.loop-at.invariant.0.begun in
     past_there a.s.now a.count a.first (c.loop-at.at + 1) (omega arith) (omega (arith, c.past_bytes-end.ensures))
 
-pub returns-then-atom-above : goal.returns-then-atom-above
-returns-then-atom-above c = span_at (Ahead _ _ _) c.spanned.result c.spanned.ensures c.loop-at.invariant.0
-
-pub returns-then-next-atom : goal.returns-then-next-atom
-returns-then-next-atom c =
-    span_at (Ahead _ _ _) c.spanned-then-next-atom.result c.spanned-then-next-atom.ensures
-    c.loop-at.invariant.0
-
-pub returns-then-most-next : goal.returns-then-most-next
-returns-then-most-next c =
-    span_at (Ahead _ _ _) c.spanned-then-most-next.result c.spanned-then-most-next.ensures
-    c.loop-at.invariant.0
-
 pub loop-at-preserved : goal.loop-at-preserved
 loop-at-preserved c =
     let l = c.loop-at in (
-      atoms_ahead _ _ _ _ _ _ c.past_bytes-end.ensures c.lesser-most.ensures l.above l.at c.wide-atom.result
-          c.wide-next.result
+      atoms_ahead _ _ _ _ _ _ c.past_bytes-end.ensures c.min-most.ensures l.above l.at c.from-atom.result
+          c.from-next.result
           l.invariant.0
           c.loop-at-test.true
-          c.wide-atom.ensures.0
-          c.wide-next.ensures.0
+          c.from-atom.ensures
+          c.from-next.ensures
           c.if-atom-above.false
           c.if-next-atom.false
           c.if-most-next.false,
@@ -53,4 +40,4 @@ loop-at-preserved c =
     )
 
 pub returns : goal.returns
-returns c = span_at (Ahead _ _ _) c.spanned-2.result c.spanned-2.ensures c.loop-at.invariant.0
+returns c = span_at (Ahead _ _ _) c.new.result c.new.ensures c.loop-at.invariant.0

@@ -1,41 +1,43 @@
 -- `read_number` meets its contract. A number of one byte is read straight. The loop's invariant: the groups from `at` on, counted by the
 -- scale, with the sum of those before, are the number; the sum is below the scale, and the scale is at most 128 for each group passed.
 use Prim.Native.Nat.{◌%◌}
-use mathlib.Core.Path.{◌∙◌, sym}
+use mathlib.Core.Path.{◌∙◌, ap, sym}
+use Rattle.std.specs.Prelude.{Ok, Err}
 use native.Mathlib.Omega.{arith}
 use Rattle.numbers.proofs.number.Laws.{here, start, started, scale_most, group_most, sum_grows, scale_grows, ended, needless, last, more, spent}
 use Rattle.numbers.proofs.short.Laws.{byte_read}
 use Rattle.numbers.proofs.number.read_number.Goals as goal
 
 pub returns-then-s-first : goal.returns-then-s-first
-returns-then-s-first c = c.refused.ensures ∙ ended _ 0 _ _ 0 1 (omega arith) c.if-s-first.true ∙ start _ _
+returns-then-s-first c = ap Err c.at.ensures ∙ ended _ 0 _ _ 0 1 (omega arith) c.if-s-first.true ∙ start _ _
 
 pub returns-then-is_short : goal.returns-then-is_short
 returns-then-is_short c =
-    let g = c.wide-byte in
-    sym (byte_read _ _ g.result c.if-s-first.false g.ensures.0 c.if-is_short.true)
+    let g = c.from-byte in
+    ap Ok c.new.ensures
+    ∙ sym (byte_read _ _ g.result c.if-s-first.false g.ensures c.if-is_short.true)
 
 pub loop-init : goal.loop-init
 loop-init c =
-    let g = c.wide-byte in (
+    let g = c.from-byte in (
       omega arith,
       omega arith,
       omega arith,
       omega arith,
-      started _ _ g.result c.if-s-first.false g.ensures.0 c.if-is_short.false g.ensures.1,
+      started _ _ g.result c.if-s-first.false g.ensures c.if-is_short.false (omega (arith, g.ensures, c.type_inv.s c.args.first)),
     )
 
 pub returns-then-s-at : goal.returns-then-s-at
 returns-then-s-at c =
     let l = c.loop in
-    c.refused-then-s-at.ensures
+    ap Err c.at-then-s-at.ensures
     ∙ ended _ l.counter _ l.at l.sum l.scale c.loop-test.true c.if-s-at.true
     ∙ l.invariant.4
 
 pub overflow_mul-sum : goal.overflow_mul-sum
 overflow_mul-sum c =
     let l = c.loop in
-    omega (arith, group_most l.counter l.scale (c.wide-group.result % 128) (omega arith) l.invariant.3 (omega arith))
+    omega (arith, group_most l.counter l.scale (c.from-group.result % 128) (omega arith) l.invariant.3 (omega arith))
 
 pub overflow_add-sum : goal.overflow_add-sum
 overflow_add-sum c =
@@ -43,15 +45,15 @@ overflow_add-sum c =
     omega (
       arith,
       scale_most l.counter l.scale (omega arith) l.invariant.3,
-      group_most l.counter l.scale (c.wide-group.result % 128) (omega arith) l.invariant.3 (omega arith),
+      group_most l.counter l.scale (c.from-group.result % 128) (omega arith) l.invariant.3 (omega arith),
     )
 
 pub returns-then-is_needless : goal.returns-then-is_needless
 returns-then-is_needless c =
     let l = c.loop in
-    c.refused-then-is_needless.ensures
-    ∙ needless _ l.counter _ l.at l.sum l.scale c.loop-test.true c.if-s-at.false c.wide-group.result
-    c.wide-group.ensures.0
+    ap Err c.at-then-is_needless.ensures
+    ∙ needless _ l.counter _ l.at l.sum l.scale c.loop-test.true c.if-s-at.false c.from-group.result
+    c.from-group.ensures
     l.invariant.1
     c.if-is_needless.true
     ∙ l.invariant.4
@@ -59,8 +61,9 @@ returns-then-is_needless c =
 pub returns-then-group-lt128 : goal.returns-then-group-lt128
 returns-then-group-lt128 c =
     let l = c.loop in
-    last _ l.counter _ l.at l.sum l.scale c.loop-test.true c.if-s-at.false c.wide-group.result
-    c.wide-group.ensures.0
+    ap Ok c.new-then-group-lt128.ensures
+    ∙ last _ l.counter _ l.at l.sum l.scale c.loop-test.true c.if-s-at.false c.from-group.result
+    c.from-group.ensures
     l.invariant.1
     c.if-group-lt128.true
     c.if-is_needless.false
@@ -77,10 +80,10 @@ loop-preserved c =
     let l = c.loop in (
       omega arith,
       omega arith,
-      sum_grows l.sum l.scale (c.wide-group.result % 128) l.invariant.2 (omega arith),
+      sum_grows l.sum l.scale (c.from-group.result % 128) l.invariant.2 (omega arith),
       scale_grows l.counter l.scale l.invariant.3,
-      more _ l.counter _ l.at l.sum l.scale c.loop-test.true c.if-s-at.false c.wide-group.result
-          c.wide-group.ensures.0
+      more _ l.counter _ l.at l.sum l.scale c.loop-test.true c.if-s-at.false c.from-group.result
+          c.from-group.ensures
           c.if-group-lt128.false
           ∙ l.invariant.4,
     )
@@ -88,4 +91,4 @@ loop-preserved c =
 pub returns : goal.returns
 returns c =
     let l = c.loop in
-    c.refused-2.ensures ∙ spent _ l.counter _ l.at l.sum l.scale c.loop-test.false ∙ l.invariant.4
+    ap Err c.at-2.ensures ∙ spent _ l.counter _ l.at l.sum l.scale c.loop-test.false ∙ l.invariant.4
