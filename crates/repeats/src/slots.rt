@@ -6,7 +6,7 @@ use super::SLOTS;
 use super::same::same_rule;
 use rules::RuleNo;
 
-// A slot and a link hold the number of a row, 1 for the first, or 0.
+// No heap: rows are linked by numbers, in arrays of fixed size. A slot and a link hold the number of a row, 1 for the first, or 0.
 #[derive(Drop)]
 pub struct Kept {
     slots: [u16; SLOTS],
