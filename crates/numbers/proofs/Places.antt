@@ -10,7 +10,9 @@ use lib.Dec.{ltb, leb}
 use Rattle.rules.specs.Limits.{highest_refusal}
 use Rattle.rules.specs.Number.{checked_atom}
 use Rattle.rules.specs.Sum.{pick}
-use Rattle.numbers.specs.Answer.{Reason, EndsEarly, NotShortest, NoAtom, NotIncreasing, FourthByte, reason_number, OutsideLimits, refusal, read_then}
+use Rattle.numbers.specs.Answer.{reason_number, refusal, read_then}
+use Rattle.numbers.specs.declared.reason.Reason.{Reason}
+use Rattle.numbers.specs.declared.reason.Reason.TheVariants.{EndsEarly, NotShortest, NoAtom, NotIncreasing, FourthByte, OutsideLimits}
 use Rattle.numbers.specs.Number.{number_at, within_at}
 use Rattle.numbers.specs.Lists.{atom_at, up_to, in_turn, list_at}
 use Rattle.numbers.specs.Shown.Refusals.{NumberRefused, ends, padded, large}

@@ -5,7 +5,9 @@ use native.Mathlib.Omega.{arith}
 use lib.Dec.{eqb}
 use Rattle.rules.specs.Sum.{pick}
 use Rattle.rules.specs.Limits.{highest_refusal}
-use Rattle.numbers.specs.Answer.{Reason, EndsEarly, NotShortest, Edition, OutsideLimits, UnknownKind, NoAtom, NotIncreasing, BytesLeft, TooLong, MapTooShort, BadPin, BadMapByte, NoRule, MarginOnContradiction, FourthByte, BoundTooHigh, reason_number}
+use Rattle.numbers.specs.Answer.{reason_number}
+use Rattle.numbers.specs.declared.reason.Reason.{Reason}
+use Rattle.numbers.specs.declared.reason.Reason.TheVariants.{EndsEarly, NotShortest, Edition, OutsideLimits, UnknownKind, NoAtom, NotIncreasing, BytesLeft, TooLong, MapTooShort, BadPin, BadMapByte, NoRule, MarginOnContradiction, FourthByte, BoundTooHigh}
 
 pub reason_numbered : (r : Reason) → (1 ≤ reason_number r) × (reason_number r ≤ highest_refusal)
 reason_numbered EndsEarly = (omega arith, omega arith)

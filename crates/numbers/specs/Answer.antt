@@ -2,8 +2,8 @@
 use Rattle.std.specs.Prelude.{ℕ, Result, Ok, Err}
 use Rattle.numbers.specs.declared.Refusal.{Refusal}
 use Rattle.numbers.specs.declared.Span.{Span}
-pub use Rattle.numbers.specs.declared.reason.Reason.{Reason}
-pub use Rattle.numbers.specs.declared.reason.Reason.TheVariants.{EndsEarly, NotShortest, Edition, OutsideLimits, UnknownKind, NoAtom, NotIncreasing, BytesLeft, TooLong, MapTooShort, BadPin, BadMapByte, NoRule, MarginOnContradiction, FourthByte, BoundTooHigh}
+use Rattle.numbers.specs.declared.reason.Reason.{Reason}
+use Rattle.numbers.specs.declared.reason.Reason.TheVariants.{EndsEarly, NotShortest, Edition, OutsideLimits, UnknownKind, NoAtom, NotIncreasing, BytesLeft, TooLong, MapTooShort, BadPin, BadMapByte, NoRule, MarginOnContradiction, FourthByte, BoundTooHigh}
 
 -- the number of each reason
 abbrev pub reason_number : Reason → ℕ

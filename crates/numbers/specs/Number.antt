@@ -5,7 +5,8 @@
 -- limits", at its first byte.
 use Rattle.std.specs.Prelude.{ℕ, zero, suc, ◌+◌, ◌*◌, ◌%◌, ◌&&◌, List, length, get_or, ltb, eqb, Result, Ok, Err}
 use Rattle.rules.specs.Sum.{pick}
-use Rattle.numbers.specs.Answer.{EndsEarly, NotShortest, OutsideLimits, FourthByte, refusal, span, read_then}
+use Rattle.numbers.specs.Answer.{refusal, span, read_then}
+use Rattle.numbers.specs.declared.reason.Reason.TheVariants.{EndsEarly, NotShortest, OutsideLimits, FourthByte}
 use Rattle.numbers.specs.declared.Refusal.{Refusal}
 use Rattle.numbers.specs.declared.Span.{Span}
 

@@ -16,22 +16,20 @@ pub fn read_number(s: &[u8], first: usize) -> Result<Span, Refusal>
     if is_short {
         return Ok(Span::new(byte, first, first + 1));
     }
-    let mut at = first + 1;
     let mut sum: usize = byte - 128;
     let mut scale: usize = 128;
-    for _ in 1..4u32 {
+    for at in first + 1..first + 4 {
         if s.len() <= at {
             return Err(Reason::EndsEarly.at(s.len()));
         }
         let group = usize::from(s[at]);
-        at += 1;
         sum += group % 128 * scale;
         if group < 128 {
             let is_needless = group == 0;
             if is_needless {
                 return Err(Reason::NotShortest.at(first));
             }
-            return Ok(Span::new(sum, first, at));
+            return Ok(Span::new(sum, first, at + 1));
         }
         scale *= 128;
     }

@@ -9,26 +9,27 @@ use Rattle.rules.specs.Rule.{Rule, Sheet}
 use Rattle.rules.specs.Stable.{Dead}
 use Rattle.rules.proofs.Fits.{Numbered}
 use Rattle.numbers.specs.Shown.Encode.{IsBytes}
-use Rattle.sheet.specs.Sheet.{sheet_read, sheet_then}
+use Rattle.sheet.specs.Sheet.{sheet_read}
 use Rattle.sheet.specs.Meaning.{accepted, refused, sheet_meant, sheet_of}
 use Rattle.sheet.specs.Shown.Encode.{encode, AllLiving, WellFormed}
 use Rattle.sheet.specs.declared.Outline.{Outline}
-use Rattle.sheet.specs.declared.SheetRead.{SheetRead}
-use Rattle.sheet.specs.declared.SheetRead.TheVariants.{Accepted, Refused as RefusedSheet}
 use Rattle.sheet.proofs.sheet.Ran.{SheetRan, sheet_ran}
 use Rattle.sheet.proofs.sheet.Written.{sheet_written}
 use Rattle.sheet.proofs.Fits.{formed_numbered}
+use Rattle.std.specs.Prelude.{Result, Ok, Err}
+use Rattle.numbers.specs.declared.Refusal.{Refusal}
+use Rattle.numbers.specs.Answer.{read_then}
 
 -- a meaning came of an accepted check
-pub outlined : (s : List ℕ) (sh : Sheet) → sheet_of s ≡ accepted sh → (o : Outline) × (sheet_read s ≡ Accepted o) × (sheet_meant s o ≡ sh)
-unfolding sheet_of sheet_then
+pub outlined : (s : List ℕ) (sh : Sheet) → sheet_of s ≡ accepted sh → (o : Outline) × (sheet_read s ≡ Ok o) × (sheet_meant s o ≡ sh)
+unfolding sheet_of read_then
 outlined s sh e = by (sheet_read s) refl e
   where
     by :
-        (c : SheetRead) → sheet_read s ≡ c → sheet_then refused c (λ o. accepted (sheet_meant s o)) ≡ accepted sh
-        → (o : Outline) × (sheet_read s ≡ Accepted o) × (sheet_meant s o ≡ sh)
-    by (Accepted o) h z = (o, h, cc)
-    by (RefusedSheet why) h z = let w : ◌≡◌ {A = ℕ} 0 1 = cc in absurd (omega arith)
+        (c : Result Outline Refusal) → sheet_read s ≡ c → read_then refused c (λ o. accepted (sheet_meant s o)) ≡ accepted sh
+        → (o : Outline) × (sheet_read s ≡ Ok o) × (sheet_meant s o ≡ sh)
+    by (Ok o) h z = (o, h, cc)
+    by (Err why) h z = let w : ◌≡◌ {A = ℕ} 0 1 = cc in absurd (omega arith)
 
 module _ (s : List ℕ) (sh : Sheet) (e : sheet_of s ≡ accepted sh) where
   ran : (o : Outline) × SheetRan s o × (sheet_meant s o ≡ sh)

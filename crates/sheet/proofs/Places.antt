@@ -9,38 +9,38 @@ use lib.ListN.{length}
 use lib.Dec.{ltb, eqb}
 use borrow.Author.Tests.{ltb-false}
 use Rattle.rules.specs.Limits.{atoms_most, rules_most, bytes_most, weight_most}
+use Rattle.rules.specs.Rule.{checked_kind}
+use Rattle.rules.specs.declared.kind.Kind.{Kind}
+use Rattle.rules.specs.declared.kind.Kind.TheVariants.{Basic as basic, Constraint as constraint, Choice as choice, Weight as weight}
 use Rattle.rules.specs.Number.{checked_atom}
 use Rattle.rules.specs.Stable.{weight_sum}
 use Rattle.rules.specs.declared.Atom.{Atom}
-use Rattle.numbers.specs.Answer.{span}
+use Rattle.numbers.specs.Answer.{span, read_then}
+use Rattle.numbers.specs.declared.reason.Reason.TheVariants.{Edition, UnknownKind, NoAtom, BytesLeft, TooLong, BoundTooHigh}
 use Rattle.numbers.specs.declared.Refusal.{Refusal}
 use Rattle.numbers.specs.declared.Span.{Span}
-use Rattle.numbers.specs.declared.Read.TheVariants.{Got, Refused}
-use Rattle.numbers.proofs.Places.{Placed, placed, Tame, gets, refuses, pick_so, read_so, atom_so, number_tame, within_tame, run_tame, list_tame}
+use Rattle.numbers.proofs.Places.{Placed, placed, Tame, gets, refuses, pick_so, read_so, some_so, number_tame, within_tame, run_tame, list_tame}
 use Rattle.sheet.specs.Body.{weight_at, weights_at, weights_due, need_for, weighed_at, body_at, unless_above, unless_dead}
 use Rattle.sheet.specs.RuleMeaning.{rule_meant}
-use Rattle.sheet.specs.Rule.{head_then, basic_at, bounded, bounded_at, choice_at, rule_at, rule_then, rule_step, rules_at}
-use Rattle.sheet.specs.Sheet.{edition_at, tail_at, rest_at, whole_at, sheet_read, sheet_then}
+use Rattle.sheet.specs.Rule.{head_then, basic_at, bounded, bounded_at, choice_at, kind_at, rule_at, rule_step, rules_at}
+use Rattle.sheet.specs.Sheet.{edition_at, tail_at, rest_at, whole_at, sheet_read}
 use Rattle.sheet.specs.Meaning.{accepted, refused, sheet_meant, sheet_of}
 use Rattle.sheet.specs.declared.SheetKind.{SheetKind}
 use Rattle.sheet.specs.declared.SheetKind.TheVariants.{Basic, Choice}
 use Rattle.sheet.specs.declared.SheetRule.{SheetRule}
-use Rattle.sheet.specs.declared.RuleRead.{RuleRead}
-use Rattle.sheet.specs.declared.RuleRead.TheVariants.{Got as GotRule, Refused as RefusedRule}
 use Rattle.sheet.specs.declared.Outline.{Outline}
-use Rattle.sheet.specs.declared.SheetRead.{SheetRead}
-use Rattle.sheet.specs.declared.SheetRead.TheVariants.{Accepted, Refused as RefusedSheet}
-use Rattle.sheet.proofs.body.Ran.{not_rule, same_rule_law}
+use Rattle.numbers.proofs.Answer.{not_ok, same_ok}
+use Rattle.std.specs.Prelude.{Result, Ok, Err}
 
 -- a rule that ends within the bytes, or a refusal within them
-data TameRule (s : List ℕ) : RuleRead → Type 0 where
-  gets_rule : (r : SheetRule) → r.next ≤ length s → TameRule s (GotRule r)
-  refuses_rule : (why : Refusal) → Placed (length s) why → TameRule s (RefusedRule why)
+data TameRule (s : List ℕ) : Result SheetRule Refusal → Type 0 where
+  gets_rule : (r : SheetRule) → r.next ≤ length s → TameRule s (Ok r)
+  refuses_rule : (why : Refusal) → Placed (length s) why → TameRule s (Err why)
 
 -- any refusal is at a place up to the last
-data TameSheet (last : ℕ) : SheetRead → Type 0 where
-  accepts : (o : Outline) → TameSheet last (Accepted o)
-  refuses_sheet : (why : Refusal) → Placed last why → TameSheet last (RefusedSheet why)
+data TameSheet (last : ℕ) : Result Outline Refusal → Type 0 where
+  accepts : (o : Outline) → TameSheet last (Ok o)
+  refuses_sheet : (why : Refusal) → Placed last why → TameSheet last (Err why)
 
 module _ (s : List ℕ) where
   weights_tame : (count at : ℕ) → at ≤ length s → Tame s (weights_at s count at)
@@ -52,31 +52,31 @@ module _ (s : List ℕ) where
       → TameRule s (weighed_at s kind need positive negated)
   unfolding weighed_at
   weighed_tame kind need positive negated h =
-      read_so (TameRule s) RefusedRule _ (weights_tame (weights_due kind positive.value) negated.next h) refuses_rule
-      (λ above k. read_so (TameRule s) RefusedRule _ (weights_tame (weights_due kind negated.value) above.next k) refuses_rule
+      read_so (TameRule s) Err _ (weights_tame (weights_due kind positive.value) negated.next h) refuses_rule
+      (λ above k. read_so (TameRule s) Err _ (weights_tame (weights_due kind negated.value) above.next k) refuses_rule
       (λ below l. gets_rule _ l))
 
   body_tame : (n : ℕ) (kind : SheetKind) (at : ℕ) → at ≤ length s → TameRule s (body_at s n kind at)
   unfolding body_at
   body_tame n kind at h =
-      read_so (TameRule s) RefusedRule _ (list_tame s 0 n at h) refuses_rule
-      (λ positive k. read_so (TameRule s) RefusedRule _ (list_tame s 0 n positive.next k) refuses_rule
+      read_so (TameRule s) Err _ (list_tame s 0 n at h) refuses_rule
+      (λ positive k. read_so (TameRule s) Err _ (list_tame s 0 n positive.next k) refuses_rule
       (λ negated l. weighed_tame kind (need_for kind (positive.value + negated.value)) positive negated l))
 
-  dead_tame : (bound : ℕ) → bound ≤ length s → (a : RuleRead) → TameRule s a → TameRule s (unless_dead s bound a)
-  unfolding unless_dead unless_above
+  dead_tame : (bound : ℕ) → bound ≤ length s → (a : Result SheetRule Refusal) → TameRule s a → TameRule s (unless_dead s bound a)
+  unfolding unless_dead read_then unless_above
   dead_tame bound h _ (gets_rule r l) =
-      pick_so (TameRule s) (ltb (weight_sum (rule_meant s r)) r.need) _ _ (λ b. refuses_rule _ (placed 16 bound (omega arith) h)) (λ b. gets_rule r l)
+      pick_so (TameRule s) (ltb (weight_sum (rule_meant s r)) r.need) _ _ (λ b. refuses_rule _ (placed BoundTooHigh bound h)) (λ b. gets_rule r l)
   dead_tame bound h _ (refuses_rule why w) = refuses_rule why w
 
   module _ (n at : ℕ) (h : at ≤ length s) where
     head_tame :
-        (next : Atom → ℕ → RuleRead) → ((head : Atom) (place : ℕ) → place ≤ length s → TameRule s (next head place))
+        (next : Atom → ℕ → Result SheetRule Refusal) → ((head : Atom) (place : ℕ) → place ≤ length s → TameRule s (next head place))
         → TameRule s (head_then s n at next)
     unfolding head_then
     head_tame next tame =
-        read_so (TameRule s) RefusedRule _ (number_tame s at h) refuses_rule
-        (λ number k. atom_so (TameRule s) _ (checked_atom n number.value) _ (refuses_rule _ (placed 6 at (omega arith) h))
+        read_so (TameRule s) Err _ (number_tame s at h) refuses_rule
+        (λ number k. some_so (TameRule s) Err _ _ (checked_atom n number.value) (refuses_rule _ (placed NoAtom at h))
         (λ head. tame head number.next k))
 
     basic_tame : TameRule s (basic_at s n at)
@@ -87,38 +87,42 @@ module _ (s : List ℕ) where
     unfolding bounded_at
     bounded_tame weighs =
         head_tame _
-        (λ head place l. read_so (TameRule s) RefusedRule _ (number_tame s place l) refuses_rule
+        (λ head place l. read_so (TameRule s) Err _ (number_tame s place l) refuses_rule
         (λ bound k. dead_tame place l _ (body_tame n (bounded weighs head bound.value) bound.next k)))
 
     choice_tame : TameRule s (choice_at s n at)
     unfolding choice_at
     choice_tame =
-        read_so (TameRule s) RefusedRule _ (list_tame s 1 n at h) refuses_rule
+        read_so (TameRule s) Err _ (list_tame s 1 n at h) refuses_rule
         (λ heads k. body_tame n (Choice heads) heads.next k)
+
+  kind_tame : (n : ℕ) (kind : Kind) (at : ℕ) → at ≤ length s → TameRule s (kind_at s n kind at)
+  unfolding kind_at
+  kind_tame n basic at h = basic_tame n at h
+  kind_tame n constraint at h = bounded_tame n at h false
+  kind_tame n choice at h = choice_tame n at h
+  kind_tame n weight at h = bounded_tame n at h true
 
   rule_tame : (n at : ℕ) → at ≤ length s → TameRule s (rule_at s n at)
   unfolding rule_at
   rule_tame n at h =
-      read_so (TameRule s) RefusedRule _ (number_tame s at h) refuses_rule
-      (λ kind k. pick_so (TameRule s) (eqb kind.value 1) _ _ (λ b. basic_tame n kind.next k)
-      (λ b. pick_so (TameRule s) (eqb kind.value 2) _ _ (λ c. bounded_tame n kind.next k false)
-      (λ c. pick_so (TameRule s) (eqb kind.value 3) _ _ (λ d. choice_tame n kind.next k)
-      (λ d. pick_so (TameRule s) (eqb kind.value 5) _ _ (λ f. bounded_tame n kind.next k true)
-      (λ f. refuses_rule _ (placed 5 at (omega arith) h))))))
+      read_so (TameRule s) Err _ (number_tame s at h) refuses_rule
+      (λ number k. some_so (TameRule s) Err _ _ (checked_kind number.value) (refuses_rule _ (placed UnknownKind at h))
+      (λ kind. kind_tame n kind number.next k))
 
   -- a rule that was read ends within the bytes
-  pub rule_within : (n at : ℕ) → at ≤ length s → (r : SheetRule) → rule_at s n at ≡ GotRule r → r.next ≤ length s
+  pub rule_within : (n at : ℕ) → at ≤ length s → (r : SheetRule) → rule_at s n at ≡ Ok r → r.next ≤ length s
   rule_within n at h r e = by (rule_at s n at) (rule_tame n at h) e
     where
-      by : (a : RuleRead) → TameRule s a → a ≡ GotRule r → r.next ≤ length s
-      by _ (gets_rule t l) z = subst (λ (u : SheetRule). u.next ≤ length s) (same_rule_law z) l
-      by _ (refuses_rule why w) z = absurd (not_rule why z)
+      by : (a : Result SheetRule Refusal) → TameRule s a → a ≡ Ok r → r.next ≤ length s
+      by _ (gets_rule t l) z = subst (λ (u : SheetRule). u.next ≤ length s) (same_ok z) l
+      by _ (refuses_rule why w) z = absurd (not_ok why z)
 
   step_tame : (n before at : ℕ) → at ≤ length s → Tame s (rule_step s n before at)
-  unfolding rule_step rule_then
+  unfolding rule_step read_then
   step_tame n before at h = by (rule_at s n at) (rule_tame n at h)
     where
-      by : (a : RuleRead) → TameRule s a → Tame s (rule_then Refused a (λ rule. Got (span before at rule.next)))
+      by : (a : Result SheetRule Refusal) → TameRule s a → Tame s (read_then Err a (λ rule. Ok (span before at rule.next)))
       by _ (gets_rule r l) = gets _ l
       by _ (refuses_rule why w) = refuses why w
 
@@ -129,35 +133,35 @@ module _ (s : List ℕ) where
   edition_tame : Tame s (edition_at s)
   unfolding edition_at
   edition_tame =
-      read_so (Tame s) Refused _ (number_tame s 0 (omega arith)) refuses
+      read_so (Tame s) Err _ (number_tame s 0 (omega arith)) refuses
       (λ edition k. pick_so (Tame s) (eqb edition.value 1) _ _ (λ b. gets edition k)
-      (λ b. refuses _ (placed 3 0 (omega arith) (omega arith))))
+      (λ b. refuses _ (placed Edition 0 (omega arith))))
 
   tail_tame : (n : ℕ) (rules : Span) → rules.next ≤ length s → TameSheet (length s) (tail_at s n rules)
   unfolding tail_at
   tail_tame n rules h =
-      read_so (TameSheet (length s)) RefusedSheet _ (list_tame s 0 n rules.next h) refuses_sheet
-      (λ ins k. read_so (TameSheet (length s)) RefusedSheet _ (list_tame s 0 n ins.next k) refuses_sheet
+      read_so (TameSheet (length s)) Err _ (list_tame s 0 n rules.next h) refuses_sheet
+      (λ ins k. read_so (TameSheet (length s)) Err _ (list_tame s 0 n ins.next k) refuses_sheet
       (λ outs l. pick_so (TameSheet (length s)) (ltb outs.next (length s)) _ _
-      (λ b. refuses_sheet _ (placed 8 outs.next (omega arith) l))
+      (λ b. refuses_sheet _ (placed BytesLeft outs.next l))
       (λ b. accepts _)))
 
   rest_tame : (n at : ℕ) → at ≤ length s → TameSheet (length s) (rest_at s n at)
   unfolding rest_at
   rest_tame n at h =
-      read_so (TameSheet (length s)) RefusedSheet _ (within_tame s at h 0 rules_most) refuses_sheet
-      (λ count k. read_so (TameSheet (length s)) RefusedSheet _ (rules_tame n count.value count.next k) refuses_sheet
+      read_so (TameSheet (length s)) Err _ (within_tame s at h 0 rules_most) refuses_sheet
+      (λ count k. read_so (TameSheet (length s)) Err _ (rules_tame n count.value count.next k) refuses_sheet
       (λ rules l. tail_tame n rules l))
 
   whole_tame : TameSheet (length s) (whole_at s)
   unfolding whole_at
   whole_tame =
-      read_so (TameSheet (length s)) RefusedSheet _ edition_tame refuses_sheet
-      (λ edition k. read_so (TameSheet (length s)) RefusedSheet _ (within_tame s edition.next k 0 atoms_most) refuses_sheet
+      read_so (TameSheet (length s)) Err _ edition_tame refuses_sheet
+      (λ edition k. read_so (TameSheet (length s)) Err _ (within_tame s edition.next k 0 atoms_most) refuses_sheet
       (λ atoms l. rest_tame atoms.value atoms.next l))
 
   -- a limit above the length is one too
-  looser : (c : SheetRead) → length s ≤ bytes_most → TameSheet (length s) c → TameSheet bytes_most c
+  looser : (c : Result Outline Refusal) → length s ≤ bytes_most → TameSheet (length s) c → TameSheet bytes_most c
   looser _ h (accepts o) = accepts o
   looser _ h (refuses_sheet why w) = refuses_sheet why (record { number = w.number; place = omega (arith, w.place) })
 
@@ -165,23 +169,23 @@ module _ (s : List ℕ) where
   unfolding sheet_read
   check_tame =
       pick_so (TameSheet bytes_most) (ltb bytes_most (length s)) _ _
-      (λ b. refuses_sheet _ (placed 9 bytes_most (omega arith) (omega arith)))
+      (λ b. refuses_sheet _ (placed TooLong bytes_most (omega arith)))
       (λ b. looser (whole_at s) (ltb-false bytes_most (length s) b) whole_tame)
 
-refusal_placed : {last : ℕ} (why : Refusal) → TameSheet last (RefusedSheet why) → Placed last why
+refusal_placed : {last : ℕ} (why : Refusal) → TameSheet last (Err why) → Placed last why
 refusal_placed _ (refuses_sheet why w) = w
 
 -- a sheet is refused by one of the refusals' numbers, at a place up to the limit of bytes
-pub refused_small : (s : List ℕ) (why : Refusal) → sheet_read s ≡ RefusedSheet why → Placed bytes_most why
-refused_small s why e = refusal_placed why (subst (λ (c : SheetRead). TameSheet bytes_most c) e (check_tame s))
+pub refused_small : (s : List ℕ) (why : Refusal) → sheet_read s ≡ Err why → Placed bytes_most why
+refused_small s why e = refusal_placed why (subst (λ (c : Result Outline Refusal). TameSheet bytes_most c) e (check_tame s))
 
 -- and so is a meaning
 pub meaning_small : (s : List ℕ) (why : Refusal) → sheet_of s ≡ refused why → Placed bytes_most why
-unfolding sheet_of sheet_then
+unfolding sheet_of read_then
 meaning_small s why e = by (sheet_read s) refl e
   where
-    by : (c : SheetRead) → sheet_read s ≡ c → sheet_then refused c (λ o. accepted (sheet_meant s o)) ≡ refused why → Placed bytes_most why
-    by (Accepted o) h z = let w : ◌≡◌ {A = ℕ} 0 1 = cc in absurd (omega arith)
-    by (RefusedSheet because) h z =
+    by : (c : Result Outline Refusal) → sheet_read s ≡ c → read_then refused c (λ o. accepted (sheet_meant s o)) ≡ refused why → Placed bytes_most why
+    by (Ok o) h z = let w : ◌≡◌ {A = ℕ} 0 1 = cc in absurd (omega arith)
+    by (Err because) h z =
         let same : because ≡ why = cc in
-        refused_small s why (h ∙ ap RefusedSheet same)
+        refused_small s why (h ∙ ap Err same)

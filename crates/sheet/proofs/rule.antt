@@ -1,3 +1,4 @@
+pub mod KindNumber
 pub mod Laws
 pub mod Apart
 pub mod Head

@@ -1,4 +1,3 @@
-pub mod Laws
 pub mod Rules
 pub mod Ran
 pub mod Written

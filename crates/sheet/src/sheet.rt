@@ -1,55 +1,41 @@
 // The whole sheet: accepted, or refused for the first reason in reading order.
 ghost use Rattle.std.specs.Prelude.{◌≡◌};
-ghost use Rattle.numbers.specs.Answer.{refusal};
 ghost use Rattle.sheet.specs.Sheet.{edition_at, tail_at, rest_at, whole_at, sheet_read};
 
+use super::Outline;
 use super::rule::read_rules;
-use super::{Outline, SheetRead};
-use numbers::{Read, Refusal, Span, read_list, read_number, read_within};
+use numbers::{Reason, Refusal, Span, read_list, read_number, read_within};
 use rules::{Atom, RuleNo};
 
 // The longest sheet, in bytes.
 pub const BYTES_MOST: usize = 65_536;
 
 // The edition, which is 1.
-fn read_edition(s: &[u8]) -> Read
+#[tactic(auto, unfolding(crate::specs::Sheet::edition_at, numbers::specs::Answer::read_then, rules::specs::Sum::pick))]
+fn read_edition(s: &[u8]) -> Result<Span, Refusal>
     ensures { result ≡ edition_at s.now }
 {
     let got = read_number(s, 0);
-    let Read::Got(edition) = got else {
+    let Ok(edition) = got else {
         return got;
     };
     if edition.value == 1 {
         return got;
     }
-    Read::Refused(Refusal {
-        number: 3,
-        place: 0,
-    })
-}
-
-fn refused(number: usize, place: usize) -> SheetRead
-    ensures { result ≡ SheetRead.Refused (refusal number place) }
-{
-    SheetRead::Refused(Refusal { number, place })
+    Err(Reason::Edition.at(0))
 }
 
 // The compute lists after the rules, and nothing more.
-fn read_tail(s: &[u8], n: usize, rules: Span) -> SheetRead
+#[tactic(auto, unfolding(crate::specs::Sheet::tail_at, numbers::specs::Answer::read_then, rules::specs::Sum::pick))]
+fn read_tail(s: &[u8], n: usize, rules: Span) -> Result<Outline, Refusal>
     ensures { result ≡ tail_at s.now n rules }
 {
-    let ins = match read_list(s, 0, n, rules.next) {
-        Read::Got(list) => list,
-        Read::Refused(why) => return SheetRead::Refused(why),
-    };
-    let outs = match read_list(s, 0, n, ins.next) {
-        Read::Got(list) => list,
-        Read::Refused(why) => return SheetRead::Refused(why),
-    };
+    let ins = read_list(s, 0, n, rules.next)?;
+    let outs = read_list(s, 0, n, ins.next)?;
     if outs.next < s.len() {
-        return refused(8, outs.next);
+        return Err(Reason::BytesLeft.at(outs.next));
     }
-    SheetRead::Accepted(Outline {
+    Ok(Outline {
         atoms: n,
         rules,
         ins,
@@ -58,41 +44,32 @@ fn read_tail(s: &[u8], n: usize, rules: Span) -> SheetRead
 }
 
 // The rule count at a place, the rules, and what comes after them.
-fn read_rest(s: &[u8], n: usize, at: usize) -> SheetRead
+#[tactic(auto, unfolding(crate::specs::Sheet::rest_at, rules::specs::Limits::rules_most, numbers::specs::Answer::read_then))]
+fn read_rest(s: &[u8], n: usize, at: usize) -> Result<Outline, Refusal>
     ensures { result ≡ rest_at s.now n at }
 {
-    let count = match read_within(s, 0, RuleNo::LAST, at) {
-        Read::Got(count) => count,
-        Read::Refused(why) => return SheetRead::Refused(why),
-    };
-    let rules = match read_rules(s, n, count.value, count.next) {
-        Read::Got(rules) => rules,
-        Read::Refused(why) => return SheetRead::Refused(why),
-    };
+    let count = read_within(s, 0, RuleNo::LAST, at)?;
+    let rules = read_rules(s, n, count.value, count.next)?;
     read_tail(s, n, rules)
 }
 
 // The sheet in reading order.
-fn read_whole(s: &[u8]) -> SheetRead
+#[tactic(auto, unfolding(crate::specs::Sheet::whole_at, rules::specs::Limits::atoms_most, numbers::specs::Answer::read_then))]
+fn read_whole(s: &[u8]) -> Result<Outline, Refusal>
     ensures { result ≡ whole_at s.now }
 {
-    let edition = match read_edition(s) {
-        Read::Got(edition) => edition,
-        Read::Refused(why) => return SheetRead::Refused(why),
-    };
-    let atoms = match read_within(s, 0, Atom::LAST, edition.next) {
-        Read::Got(atoms) => atoms,
-        Read::Refused(why) => return SheetRead::Refused(why),
-    };
+    let edition = read_edition(s)?;
+    let atoms = read_within(s, 0, Atom::LAST, edition.next)?;
     read_rest(s, atoms.value, atoms.next)
 }
 
 // A sheet: accepted, or its refusal.
-pub fn read_sheet(s: &[u8]) -> SheetRead
+#[tactic(auto, unfolding(crate::specs::Sheet::sheet_read, rules::specs::Limits::bytes_most, rules::specs::Sum::pick))]
+pub fn read_sheet(s: &[u8]) -> Result<Outline, Refusal>
     ensures { result ≡ sheet_read s.now }
 {
     if BYTES_MOST < s.len() {
-        return refused(9, BYTES_MOST);
+        return Err(Reason::TooLong.at(BYTES_MOST));
     }
     read_whole(s)
 }

@@ -13,7 +13,8 @@ use Rattle.rules.specs.Number.{checked_atom}
 use Rattle.rules.specs.Sum.{pick}
 use Rattle.rules.specs.declared.Atom.{Atom}
 use Rattle.rules.proofs.Inside.{atom_is, atom_made}
-use Rattle.numbers.specs.Answer.{NoAtom, refusal, read_then, span}
+use Rattle.numbers.specs.Answer.{refusal, read_then, span}
+use Rattle.numbers.specs.declared.reason.Reason.TheVariants.{NoAtom}
 use Rattle.numbers.specs.Number.{number_at}
 use Rattle.numbers.specs.Lists.{atom_at, in_turn, up_to, numbers_from}
 use Rattle.numbers.specs.Shown.Encode.{number_bytes, numbers_bytes, IsBytes, Linked, none, more, Rises}

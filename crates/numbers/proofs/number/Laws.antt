@@ -1,6 +1,6 @@
 -- The groups of a number, read low group first into a sum: what is left of the number counts by the scale that has been reached.
 use Prim.Native.Nat.{ℕ, suc, ◌+◌, ◌-◌, ◌*◌, ◌^◌, ◌%◌, ◌≤◌, ◌<◌}
-use mathlib.Core.Path.{◌≡◌, refl, ap, ◌∙◌, sym}
+use mathlib.Core.Path.{◌≡◌, refl, ap, subst, ◌∙◌, sym}
 use mathlib.Core.List.{List}
 use native.Mathlib.Omega.{arith}
 use native.Mathlib.Nat.{mul_assoc, mul_comm, add-mul, mul-le-mul_left, mul-le-mul_right, pow-le-pow_right, le_trans, pow-suc, mod-eq_of_lt}
@@ -9,7 +9,8 @@ use lib.ListN.{length, get_or}
 use lib.Dec.{lit<}
 use borrow.Author.Tests.{lt-ltb, le-ltb, ne_eqb}
 use Rattle.rules.specs.Sum.{pick}
-use Rattle.numbers.specs.Answer.{EndsEarly, NotShortest, FourthByte, read_then, span, refusal}
+use Rattle.numbers.specs.Answer.{read_then, span, refusal}
+use Rattle.numbers.specs.declared.reason.Reason.TheVariants.{EndsEarly, NotShortest, FourthByte}
 use Rattle.numbers.specs.Number.{groups_from, number_at, higher, taken_from, taken_at}
 use Rattle.numbers.specs.declared.Span.{Span}
 use Rattle.numbers.proofs.Answer.{one_left}
@@ -113,6 +114,14 @@ unfolding here scaled groups_from
 spent s k first at sum scale h =
     let e : 0 ≡ 4 - k = omega arith in
     ap (λ (left : ℕ). scaled sum scale (groups_from left s first at)) e
+
+-- how far the loop has come: its scale is at most 128 for each group that was passed, and what is left is the number
+pub record Come (s : List ℕ) (first k at sum scale : ℕ) : Type 0 where
+  pub most : scale ≤ 128 ^ k
+  pub left : here s k first at sum scale ≡ number_at s first
+
+pub come : {s : List ℕ} {first k j at sum scale : ℕ} → k ≡ j → Come s first k at sum scale → Come s first j at sum scale
+come {s} {first} {at = at} {sum} {scale} e a = subst (λ (i : ℕ). Come s first i at sum scale) e a
 
 -- the same of a number that is taken without a test
 raised_none : (sum scale first at : ℕ) → span sum first at ≡ raised sum scale (span 0 first at)

@@ -11,7 +11,8 @@ use Rattle.numbers.specs.declared.Refusal.{Refusal}
 use Rattle.numbers.specs.declared.Span.{Span}
 use Rattle.rules.specs.Sum.{pick}
 use Rattle.rules.proofs.Tests.{T_true, true_T, T_eq, T_and_left, T_and_right}
-use Rattle.numbers.specs.Answer.{EndsEarly, NotShortest, read_then, span, refusal}
+use Rattle.numbers.specs.Answer.{read_then, span, refusal}
+use Rattle.numbers.specs.declared.reason.Reason.TheVariants.{EndsEarly, NotShortest}
 use Rattle.numbers.specs.Number.{groups_from, higher}
 use Rattle.std.specs.Prelude.{Ok, Err}
 

@@ -9,7 +9,8 @@ use lib.ListN.{length, get_or}
 use borrow.Author.Tests.{lt-ltb, le-ltb}
 use Rattle.rules.specs.Sum.{pick}
 use Rattle.rules.proofs.Tests.{below?}
-use Rattle.numbers.specs.Answer.{EndsEarly, NotShortest, FourthByte, read_then, refusal}
+use Rattle.numbers.specs.Answer.{read_then, refusal}
+use Rattle.numbers.specs.declared.reason.Reason.TheVariants.{EndsEarly, NotShortest, FourthByte}
 use Rattle.numbers.specs.Number.{groups_from, number_at}
 use Rattle.numbers.specs.Shown.Refusals.{RunsOn, NumberRefused, ends, padded, large}
 use Rattle.numbers.specs.declared.Refusal.{Refusal}

@@ -1,7 +1,8 @@
 -- "Refusal 2 for a number not in its shortest form. A fourth byte with its top bit set is refusal 15, same place, whatever follows." "1: sheet
 -- ends inside or before a number that is due." What these say of the bytes, without a reader.
 use Rattle.std.specs.Prelude.{ℕ, ◌+◌, ◌≤◌, ◌<◌, ◌≡◌, List, length, get_or}
-use Rattle.numbers.specs.Answer.{EndsEarly, NotShortest, FourthByte, refusal}
+use Rattle.numbers.specs.Answer.{refusal}
+use Rattle.numbers.specs.declared.reason.Reason.TheVariants.{EndsEarly, NotShortest, FourthByte}
 use Rattle.numbers.specs.declared.Refusal.{Refusal}
 
 -- so many bytes from a place on are there, each with its top bit set

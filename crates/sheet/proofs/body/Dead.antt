@@ -12,12 +12,11 @@ use Rattle.rules.specs.Sum.{pick}
 use Rattle.rules.specs.Stable.{weight_sum}
 use Rattle.rules.proofs.Dead.{plain_sum}
 use Rattle.numbers.specs.Answer.{refusal, read_then}
+use Rattle.numbers.specs.declared.reason.Reason.TheVariants.{BoundTooHigh}
 use Rattle.numbers.specs.Lists.{numbers_of}
 use Rattle.numbers.specs.declared.Refusal.{Refusal}
 use Rattle.numbers.specs.declared.Span.{Span}
-use Rattle.numbers.specs.declared.Read.{Read}
-use Rattle.numbers.specs.declared.Read.TheVariants.{Got, Refused}
-use Rattle.numbers.proofs.Answer.{got_by, handed_by, from_no}
+use Rattle.numbers.proofs.Answer.{got_by, handed_by, from_no, not_ok, same_ok}
 use Rattle.numbers.proofs.lists.Numbers.{numbers_count}
 use Rattle.sheet.specs.Body.{need_for, body_at, unless_above, unless_dead}
 use Rattle.sheet.specs.RuleMeaning.{rule_by, rule_meant}
@@ -26,9 +25,8 @@ use Rattle.sheet.specs.declared.SheetKind.{SheetKind}
 use Rattle.sheet.specs.declared.SheetKind.TheVariants.{Basic, Constraint, Choice, Weight}
 use Rattle.sheet.specs.declared.Literals.{Literals}
 use Rattle.sheet.specs.declared.SheetRule.{SheetRule}
-use Rattle.sheet.specs.declared.RuleRead.{RuleRead}
-use Rattle.sheet.specs.declared.RuleRead.TheVariants.{Got as GotRule, Refused as RefusedRule}
-use Rattle.sheet.proofs.body.Ran.{not_rule, same_rule_law, body_ran}
+use Rattle.sheet.proofs.body.Ran.{body_ran}
+use Rattle.std.specs.Prelude.{Result, Ok, Err}
 
 pub no_two : false ≡ true → ⊥
 no_two e = let z : ◌≡◌ {A = ℕ} 0 1 = ap (λ (b : Bool). cond b 1 0) e in omega arith
@@ -38,32 +36,32 @@ abbrev pub Lives : List ℕ → SheetRule → Type 0
 Lives s r = r.need ≤ weight_sum (rule_meant s r)
 
 module _ (s : List ℕ) (bound : ℕ) where
-  pub from_dead : (x : RuleRead) (r : SheetRule) → unless_dead s bound x ≡ GotRule r → (x ≡ GotRule r) × Lives s r
-  unfolding unless_dead unless_above
-  from_dead (RefusedRule why) r e = absurd (not_rule why e)
-  from_dead (GotRule t) r e =
-      let g = from_no (ltb (weight_sum (rule_meant s t)) t.need) _ _ (not_rule _) e in
-      (g.1, subst (Lives s) (same_rule_law g.1) (ltb-false (weight_sum (rule_meant s t)) t.need g.0))
+  pub from_dead : (x : Result SheetRule Refusal) (r : SheetRule) → unless_dead s bound x ≡ Ok r → (x ≡ Ok r) × Lives s r
+  unfolding unless_dead read_then unless_above
+  from_dead (Err why) r e = absurd (not_ok why e)
+  from_dead (Ok t) r e =
+      let g = from_no (ltb (weight_sum (rule_meant s t)) t.need) _ _ (not_ok _) e in
+      (g.1, subst (Lives s) (same_ok g.1) (ltb-false (weight_sum (rule_meant s t)) t.need g.0))
 
-  pub lives_on : (x : RuleRead) (r : SheetRule) → x ≡ GotRule r → Lives s r → unless_dead s bound x ≡ GotRule r
-  unfolding unless_dead unless_above pick
+  pub lives_on : (x : Result SheetRule Refusal) (r : SheetRule) → x ≡ Ok r → Lives s r → unless_dead s bound x ≡ Ok r
+  unfolding unless_dead read_then unless_above pick
   lives_on x r e l =
       ap (unless_dead s bound) e
-      ∙ ap (λ (b : Bool). pick b (RefusedRule (refusal 16 bound)) (GotRule r)) (le-ltb (weight_sum (rule_meant s r)) r.need l)
+      ∙ ap (λ (b : Bool). pick b (Err (refusal BoundTooHigh bound)) (Ok r)) (le-ltb (weight_sum (rule_meant s r)) r.need l)
 
-  all_live : (x : RuleRead) → ((r : SheetRule) → x ≡ GotRule r → Lives s r) → unless_dead s bound x ≡ x
-  unfolding unless_dead
-  all_live (RefusedRule why) l = refl
-  all_live (GotRule r) l = lives_on (GotRule r) r refl (l r refl)
+  all_live : (x : Result SheetRule Refusal) → ((r : SheetRule) → x ≡ Ok r → Lives s r) → unless_dead s bound x ≡ x
+  unfolding unless_dead read_then
+  all_live (Err why) l = refl
+  all_live (Ok r) l = lives_on (Ok r) r refl (l r refl)
 
   -- the test comes after what is read: a refusal on the way is handed up
-  module _ (r : RuleRead) (next : Span → RuleRead) (a x : Read) (h : x ≡ a) where
-    pub dead_got : (p : Span) → x ≡ Got p → r ≡ unless_dead s bound (next p) → r ≡ unless_dead s bound (read_then RefusedRule a next)
-    dead_got p g e = got_by (unless_dead s bound) r RefusedRule next a x h p g e
+  module _ (r : Result SheetRule Refusal) (next : Span → Result SheetRule Refusal) (a x : Result Span Refusal) (h : x ≡ a) where
+    pub dead_got : (p : Span) → x ≡ Ok p → r ≡ unless_dead s bound (next p) → r ≡ unless_dead s bound (read_then Err a next)
+    dead_got p g e = got_by (unless_dead s bound) r Err next a x h p g e
 
-    pub dead_handed : (why : Refusal) → x ≡ Refused why → r ≡ RefusedRule why → r ≡ unless_dead s bound (read_then RefusedRule a next)
-    unfolding unless_dead
-    dead_handed why g e = handed_by (unless_dead s bound) r RefusedRule next a x h why g e
+    pub dead_handed : (why : Refusal) → x ≡ Err why → r ≡ Err why → r ≡ unless_dead s bound (read_then Err a next)
+    unfolding unless_dead read_then
+    dead_handed why g e = handed_by (unless_dead s bound) r Err next a x h why g e
 
 -- literals without weights weigh 1 each
 pub plain_weighs :
@@ -88,7 +86,7 @@ pub never_dead :
 unfolding rule_meant
 never_dead s n kind bound at plain whole = all_live s bound (body_at s n kind at) lives
   where
-    lives : (r : SheetRule) → body_at s n kind at ≡ GotRule r → Lives s r
+    lives : (r : SheetRule) → body_at s n kind at ≡ Ok r → Lives s r
     lives r e =
         let b = body_ran s n kind at r e in
         let w = plain_weighs s r.kind r.positive r.negated (ap (λ (k : SheetKind). is_plain k) b.kind_is ∙ plain) in

@@ -12,8 +12,6 @@ use Rattle.numbers.specs.Answer.{span, read_then}
 use Rattle.numbers.specs.Lists.{in_turn, numbers_from, numbers_of}
 use Rattle.numbers.specs.declared.Refusal.{Refusal}
 use Rattle.numbers.specs.declared.Span.{Span}
-use Rattle.numbers.specs.declared.Read.{Read}
-use Rattle.numbers.specs.declared.Read.TheVariants.{Got, Refused}
 use Rattle.numbers.proofs.Answer.{got}
 use Rattle.numbers.proofs.lists.Numbers.{numbers_count}
 use Rattle.sheet.specs.Body.{weights_at, weights_due, need_for, weighed_at, unless_above, unless_dead}
@@ -24,10 +22,9 @@ use Rattle.sheet.specs.declared.SheetKind.{SheetKind}
 use Rattle.sheet.specs.declared.SheetKind.TheVariants.{Basic, Constraint, Choice, Weight}
 use Rattle.sheet.specs.declared.Literals.{Literals}
 use Rattle.sheet.specs.declared.SheetRule.{SheetRule}
-use Rattle.sheet.specs.declared.RuleRead.{RuleRead}
-use Rattle.sheet.specs.declared.RuleRead.TheVariants.{Got as GotRule, Refused as RefusedRule}
 use Rattle.sheet.proofs.body.Sums.{SumRan, sum_ran, sum_refused}
 use Rattle.sheet.proofs.body.Dead.{no_two, dead_got, dead_handed, plain_weighs}
+use Rattle.std.specs.Prelude.{Result, Ok, Err}
 
 -- literals that are weighed weigh what their weights add up to
 paired_sum : (xs ws : List ℕ) → length xs ≡ length ws → gain everything (paired xs ws) ≡ sum_of ws
@@ -42,19 +39,19 @@ rule_with kind need positive negated next =
     record { kind = kind; need = need; positive = positive; negated = negated; next = next }
 
 module _ (s : List ℕ) (bound : ℕ) (positive negated : Span) where
-  abbrev read : SheetKind → RuleRead
+  abbrev read : SheetKind → Result SheetRule Refusal
   read kind = weighed_at s kind (need_for kind (positive.value + negated.value)) positive negated
 
   -- a rule that was put together, with the sum of its weights
   put :
-      (kind : SheetKind) (x : RuleRead) (r : SheetRule) (sum : ℕ) → x ≡ unless_above sum bound r → sum ≡ weight_sum (rule_meant s r)
-      → GotRule r ≡ read kind → x ≡ unless_dead s bound (read kind)
-  unfolding unless_dead
+      (kind : SheetKind) (x : Result SheetRule Refusal) (r : SheetRule) (sum : ℕ) → x ≡ unless_above sum bound r → sum ≡ weight_sum (rule_meant s r)
+      → Ok r ≡ read kind → x ≡ unless_dead s bound (read kind)
+  unfolding unless_dead read_then
   put kind x r sum h e m = h ∙ ap (λ (k : ℕ). unless_above k bound r) e ∙ ap (unless_dead s bound) m
 
   plain_read :
       (kind : SheetKind) → is_plain kind ≡ true
-      → GotRule (rule_with kind (need_for kind (positive.value + negated.value)) (unweighed positive negated.next) (unweighed negated negated.next) negated.next)
+      → Ok (rule_with kind (need_for kind (positive.value + negated.value)) (unweighed positive negated.next) (unweighed negated negated.next) negated.next)
       ≡ read kind
   unfolding weighed_at weights_at in_turn read_then
   plain_read (Basic head) h = refl
@@ -62,7 +59,7 @@ module _ (s : List ℕ) (bound : ℕ) (positive negated : Span) where
   plain_read (Choice heads) h = refl
   plain_read (Weight head k) h = absurd (no_two h)
 
-  module _ (kind : SheetKind) {b : Bool} (w : b ≡ is_plain kind) {due : ℕ} (d : due ≡ need_for kind (positive.value + negated.value)) (x : RuleRead) where
+  module _ (kind : SheetKind) {b : Bool} (w : b ≡ is_plain kind) {due : ℕ} (d : due ≡ need_for kind (positive.value + negated.value)) (x : Result SheetRule Refusal) where
     pub plain_weighed :
         b ≡ true → {p q : Literals} → p ≡ unweighed positive negated.next → q ≡ unweighed negated negated.next
         → x ≡ unless_above (positive.value + negated.value) bound (rule_with kind due p q negated.next) → x ≡ unless_dead s bound (read kind)
@@ -84,7 +81,7 @@ module _ (s : List ℕ) (bound : ℕ) (positive negated : Span) where
         by (Weight head k) h = refl
 
     pub above_refused :
-        b ≡ false → {a : Read} → a ≡ sum_at s 0 positive.value negated.next → (why : Refusal) → a ≡ Refused why → x ≡ RefusedRule why
+        b ≡ false → {a : Result Span Refusal} → a ≡ sum_at s 0 positive.value negated.next → (why : Refusal) → a ≡ Err why → x ≡ Err why
         → x ≡ unless_dead s bound (read kind)
     unfolding weighed_at
     above_refused t h why g e =
@@ -92,12 +89,12 @@ module _ (s : List ℕ) (bound : ℕ) (positive negated : Span) where
         (sym (sum_refused s 0 positive.value negated.next why (sym h ∙ g)) ∙ sym (weights_due_law t positive.value negated.next))
         why refl e
 
-    module _ (t : b ≡ false) {a : Read} (h : a ≡ sum_at s 0 positive.value negated.next) (v : Span) (g : a ≡ Got v) where
+    module _ (t : b ≡ false) {a : Result Span Refusal} (h : a ≡ sum_at s 0 positive.value negated.next) (v : Span) (g : a ≡ Ok v) where
       first : SumRan s 0 positive.value negated.next v
       first = sum_ran s 0 positive.value negated.next v (sym h ∙ g)
 
       pub below_refused :
-          {c : Read} → c ≡ sum_at s v.value negated.value v.next → (why : Refusal) → c ≡ Refused why → x ≡ RefusedRule why
+          {c : Result Span Refusal} → c ≡ sum_at s v.value negated.value v.next → (why : Refusal) → c ≡ Err why → x ≡ Err why
           → x ≡ unless_dead s bound (read kind)
       unfolding weighed_at
       below_refused i why j e =
@@ -111,7 +108,7 @@ module _ (s : List ℕ) (bound : ℕ) (positive negated : Span) where
           refl
           e)
 
-      module _ {c : Read} (i : c ≡ sum_at s v.value negated.value v.next) (u : Span) (j : c ≡ Got u) where
+      module _ {c : Result Span Refusal} (i : c ≡ sum_at s v.value negated.value v.next) (u : Span) (j : c ≡ Ok u) where
         second : SumRan s v.value negated.value v.next u
         second = sum_ran s v.value negated.value v.next u (sym i ∙ j)
 
@@ -146,16 +143,16 @@ module _ (s : List ℕ) (bound : ℕ) (positive negated : Span) where
                   one negated u v.next second.first_is,
                 )
 
-        rule_read : GotRule rule ≡ read kind
+        rule_read : Ok rule ≡ read kind
         unfolding weighed_at
         rule_read =
-            got RuleRead _ RefusedRule _ _ _ _
+            got _ (Result SheetRule Refusal) _ Err _ _ _ _
             (sym first.reads ∙ sym (weights_due_law t positive.value negated.next))
             refl
-            (got RuleRead _ RefusedRule _ _ _ _
+            (got _ (Result SheetRule Refusal) _ Err _ _ _ _
             (sym second.reads ∙ sym (weights_due_law t negated.value v.next))
             refl
-            (λ k. GotRule
+            (λ k. Ok
             (rule_with kind (need_for kind (positive.value + negated.value))
             (record { atoms = positive; weights = span positive.value (first.first_is k) v.next })
             (record { atoms = negated; weights = span negated.value (second.first_is k) u.next })

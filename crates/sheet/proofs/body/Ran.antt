@@ -12,9 +12,8 @@ use Rattle.numbers.specs.Lists.{list_at, numbers_from, numbers_of}
 use Rattle.numbers.specs.Shown.Encode.{numbers_bytes, list_bytes, IsBytes}
 use Rattle.numbers.specs.declared.Refusal.{Refusal}
 use Rattle.numbers.specs.declared.Span.{Span}
-use Rattle.numbers.specs.declared.Read.TheVariants.{Got}
 use Rattle.numbers.proofs.lists.Numbers.{numbers_count}
-use Rattle.numbers.proofs.Answer.{from_read}
+use Rattle.numbers.proofs.Answer.{from_read, not_ok, same_ok}
 use Rattle.numbers.proofs.Stands.{Stands, joined, stands_as, stands_to}
 use Rattle.numbers.proofs.number.Most.{limited}
 use Rattle.numbers.proofs.lists.Most.{run_keeps}
@@ -24,16 +23,10 @@ use Rattle.sheet.specs.Body.{weight_at, weights_at, weights_due, need_for, weigh
 use Rattle.sheet.specs.Shown.Encode.{LightOne, Light}
 use Rattle.sheet.specs.declared.SheetKind.{SheetKind}
 use Rattle.sheet.specs.declared.SheetRule.{SheetRule}
-use Rattle.sheet.specs.declared.RuleRead.TheVariants.{Got as GotRule, Refused as RefusedRule}
-
-pub not_rule : {r : SheetRule} (why : Refusal) → RefusedRule why ≡ GotRule r → ⊥
-not_rule why e = let z : ◌≡◌ {A = ℕ} 0 1 = cc in omega arith
-
-pub same_rule_law : {r t : SheetRule} → GotRule r ≡ GotRule t → r ≡ t
-same_rule_law e = cc
+use Rattle.std.specs.Prelude.{Result, Ok, Err}
 
 weight_sound :
-    (s : List ℕ) (before at : ℕ) (one : Span) → weight_at s before at ≡ Got one → (number_at s at ≡ Got one) × LightOne before one.value
+    (s : List ℕ) (before at : ℕ) (one : Span) → weight_at s before at ≡ Ok one → (number_at s at ≡ Ok one) × LightOne before one.value
 unfolding weight_at
 weight_sound s before at one e =
     let l = limited s 0 weight_most at one e in
@@ -47,7 +40,7 @@ pub record WeightsRan (s : List ℕ) (due at : ℕ) (p : Span) : Type 0 where
   pub far : at + p.value ≤ p.next
   pub bytes : IsBytes s → Stands s at (numbers_bytes (numbers_of s p)) p.next
 
-pub weights_ran : (s : List ℕ) (count at : ℕ) (p : Span) → weights_at s count at ≡ Got p → WeightsRan s count at p
+pub weights_ran : (s : List ℕ) (count at : ℕ) (p : Span) → weights_at s count at ≡ Ok p → WeightsRan s count at p
 unfolding weights_at
 weights_ran s count at p e =
     let k = run_keeps (weight_at s) count 0 (span count at at) p e in
@@ -74,29 +67,30 @@ pub record BodyRan (s : List ℕ) (n : ℕ) (kind : SheetKind) (at : ℕ) (r : S
       WeightsRan s (weights_due kind r.negated.atoms.value) r.positive.weights.next r.negated.weights
   pub next_is : r.next ≡ r.negated.weights.next
 
-pub body_ran : (s : List ℕ) (n : ℕ) (kind : SheetKind) (at : ℕ) (r : SheetRule) → body_at s n kind at ≡ GotRule r → BodyRan s n kind at r
+pub body_ran : (s : List ℕ) (n : ℕ) (kind : SheetKind) (at : ℕ) (r : SheetRule) → body_at s n kind at ≡ Ok r → BodyRan s n kind at r
 unfolding body_at weighed_at
 body_ran s n kind at r e =
-    let p = from_read RefusedRule _ (list_at s 0 n at) not_rule e in
-    let q = from_read RefusedRule _ (list_at s 0 n p.0.next) not_rule p.2 in
-    let a = from_read RefusedRule _ (weights_at s (weights_due kind p.0.value) q.0.next) not_rule q.2 in
-    let b = from_read RefusedRule _ (weights_at s (weights_due kind q.0.value) a.0.next) not_rule a.2 in
+    let p = from_read Err _ (list_at s 0 n at) not_ok e in
+    let q = from_read Err _ (list_at s 0 n p.0.next) not_ok p.2 in
+    let a = from_read Err _ (weights_at s (weights_due kind p.0.value) q.0.next) not_ok q.2 in
+    let b = from_read Err _ (weights_at s (weights_due kind q.0.value) a.0.next) not_ok a.2 in
     made p.0 q.0 a.0 b.0 p.1 q.1 a.1 b.1 b.2
   where
     made :
-        (p q a b : Span) → list_at s 0 n at ≡ Got p → list_at s 0 n p.next ≡ Got q
-        → weights_at s (weights_due kind p.value) q.next ≡ Got a → weights_at s (weights_due kind q.value) a.next ≡ Got b
-        → GotRule (record {
+        (p q a b : Span) → list_at s 0 n at ≡ Ok p → list_at s 0 n p.next ≡ Ok q
+        → weights_at s (weights_due kind p.value) q.next ≡ Ok a → weights_at s (weights_due kind q.value) a.next ≡ Ok b
+        → ◌≡◌ {A = Result SheetRule Refusal}
+        (Ok (record {
           kind = kind;
           need = need_for kind (p.value + q.value);
           positive = record { atoms = p; weights = a };
           negated = record { atoms = q; weights = b };
           next = b.next;
-        })
-        ≡ GotRule r
+        }))
+        (Ok r)
         → BodyRan s n kind at r
     made p q a b hp hq ha hb z =
-        subst (λ (t : SheetRule). BodyRan s n kind at t) (same_rule_law z)
+        subst (λ (t : SheetRule). BodyRan s n kind at t) (same_ok z)
         (record {
           kind_is = refl;
           need_is = refl;

@@ -9,7 +9,6 @@ use Rattle.numbers.specs.Answer.{read_then, span}
 use Rattle.numbers.specs.Number.{number_at}
 use Rattle.numbers.specs.Lists.{numbers_of}
 use Rattle.numbers.specs.Shown.Encode.{number_bytes, numbers_bytes, list_bytes, Rising}
-use Rattle.numbers.specs.declared.Read.TheVariants.{Got}
 use Rattle.numbers.proofs.number.Encoded.{past}
 use Rattle.numbers.proofs.lists.Encoded.{numbers_read, written}
 use Rattle.numbers.proofs.lists.Whole.{list_span, within_read, list_read, list_numbers, list_past_law}
@@ -17,28 +16,28 @@ use Rattle.sheet.specs.Body.{weight_at, weights_at, weights_due, need_for, weigh
 use Rattle.sheet.specs.Shown.Encode.{LightOne, Light}
 use Rattle.sheet.specs.declared.SheetKind.{SheetKind}
 use Rattle.sheet.specs.declared.SheetRule.{SheetRule}
-use Rattle.sheet.specs.declared.RuleRead.TheVariants.{Got as GotRule}
+use Rattle.std.specs.Prelude.{Ok}
 
 light_small : (before w : ℕ) → LightOne before w → w ≤ number_most
 unfolding weight_most number_most
 light_small before w h = omega (arith, h.most)
 
 weight_complete :
-    (s : List ℕ) (before at w : ℕ) → LightOne before w → number_at s at ≡ Got (span w at (at + length (number_bytes w)))
-    → weight_at s before at ≡ Got (span w at (at + length (number_bytes w)))
+    (s : List ℕ) (before at w : ℕ) → LightOne before w → number_at s at ≡ Ok (span w at (at + length (number_bytes w)))
+    → weight_at s before at ≡ Ok (span w at (at + length (number_bytes w)))
 unfolding weight_at
 weight_complete s before at w h e = within_read s 0 weight_most at _ e (omega arith) h.most
 
 weights_read :
     (s : List ℕ) (at : ℕ) (ws q : List ℕ) → Light ws → drop at s ≡ numbers_bytes ws ++ q
-    → weights_at s (length ws) at ≡ Got (span (length ws) at (at + length (numbers_bytes ws)))
+    → weights_at s (length ws) at ≡ Ok (span (length ws) at (at + length (numbers_bytes ws)))
 unfolding weights_at
 weights_read s at ws q h d =
     written s LightOne light_small (weight_at s) (weight_complete s) h (span (length ws) at at) q d
 
 -- a rule that was written: its kind, and the numbers of its lists
 pub record BodyWritten (s : List ℕ) (n : ℕ) (kind : SheetKind) (at : ℕ) (xs ys vs ws q : List ℕ) (r : SheetRule) : Type 0 where
-  pub reads : body_at s n kind at ≡ GotRule r
+  pub reads : body_at s n kind at ≡ Ok r
   pub kind_is : r.kind ≡ kind
   pub positive : numbers_of s r.positive.atoms ≡ xs
   pub negated : numbers_of s r.negated.atoms ≡ ys

@@ -2,11 +2,12 @@
 -- n atoms, and has just the bytes that are written for it.
 use Prim.Native.Nat.{ℕ, ◌+◌, ◌≤◌}
 use mathlib.Core.Path.{◌≡◌, refl, sym, ap, ap₂, subst, ◌∙◌}
-use mathlib.Core.Bool.{Bool, true, false}
+use mathlib.Core.Bool.{Bool, true, false, cond}
 use mathlib.Core.List.{List, [], ◌∷◌, ◌++◌}
 use native.Mathlib.Omega.{arith}
 use lib.ListN.{length, length-map}
 use Rattle.rules.specs.Rule.{Rule, kind_number, one}
+use Rattle.rules.specs.declared.kind.Kind.{Kind}
 use Rattle.rules.specs.declared.kind.Kind.TheVariants.{Basic as basic, Constraint as constraint, Choice as choice, Weight as weight}
 use Rattle.rules.specs.Stable.{weight_sum, Living}
 use Rattle.rules.specs.declared.Atom.{Atom}
@@ -15,23 +16,22 @@ use Rattle.numbers.specs.Number.{number_at}
 use Rattle.numbers.specs.Lists.{list_at, numbers_of}
 use Rattle.numbers.specs.Shown.Encode.{number_bytes, numbers_bytes, list_bytes, IsBytes, Rising}
 use Rattle.numbers.specs.declared.Span.{Span}
-use Rattle.numbers.specs.declared.Read.TheVariants.{Got}
-use Rattle.numbers.proofs.Answer.{from_read}
+use Rattle.numbers.proofs.Answer.{from_read, not_ok}
 use Rattle.numbers.proofs.Stands.{Stands, joined, stands_as}
 use Rattle.numbers.proofs.number.Most.{number_most_law, number_far}
 use Rattle.numbers.proofs.number.Encoded.{number_bytes_law}
 use Rattle.numbers.proofs.lists.Whole.{list_ran}
-use Rattle.sheet.specs.Rule.{basic_at, bounded_at, choice_at, rule_at}
+use Rattle.sheet.specs.Rule.{basic_at, bounded_at, choice_at, kind_at, rule_at}
 use Rattle.sheet.specs.RuleMeaning.{paired, rule_by, rule_meant}
 use Rattle.sheet.specs.Shown.Encode.{rule_bytes, ProperRule, is_basic, is_constraint, is_choice, is_weight, rule_size, Light}
 use Rattle.sheet.specs.declared.SheetKind.{SheetKind}
 use Rattle.sheet.specs.declared.SheetKind.TheVariants.{Basic, Constraint, Choice, Weight}
 use Rattle.sheet.specs.declared.SheetRule.{SheetRule}
-use Rattle.sheet.specs.declared.RuleRead.TheVariants.{Got as GotRule, Refused as RefusedRule}
-use Rattle.sheet.proofs.body.Ran.{BodyRan, body_ran, body_bytes_law, plain_bytes, body_far, not_rule}
+use Rattle.sheet.proofs.body.Ran.{BodyRan, body_ran, body_bytes_law, plain_bytes, body_far}
 use Rattle.sheet.proofs.body.Dead.{Lives, from_dead}
 use Rattle.sheet.proofs.rule.Apart.{ones_lists, weigh_atoms, weigh_weights, weigh_length}
-use Rattle.sheet.proofs.rule.Ran.{Cases, basic_case, bounded_case, choice_case, cases, bounded_kind, HeadRan, head_ran}
+use Rattle.sheet.proofs.rule.Ran.{cases, HeadRan, head_ran}
+use Rattle.std.specs.Prelude.{Ok, Err}
 
 -- a rule that was read, and what it says
 pub record RuleRan (s : List ℕ) (n at : ℕ) (r : SheetRule) (m : Rule) : Type 0 where
@@ -43,7 +43,7 @@ pub record RuleRan (s : List ℕ) (n at : ℕ) (r : SheetRule) (m : Rule) : Type
   pub far : at + 3 + rule_size m ≤ r.next
   pub bytes : IsBytes s → Stands s at (rule_bytes m) r.next
 
-module _ (s : List ℕ) (n at : ℕ) (r : SheetRule) (k : Span) (number : number_at s at ≡ Got k) where
+module _ (s : List ℕ) (n at : ℕ) (r : SheetRule) (k : Span) (number : number_at s at ≡ Ok k) where
   kind_bytes_law : (v : ℕ) → k.value ≡ v → IsBytes s → Stands s at (number_bytes v) k.next
   kind_bytes_law v e is = stands_as (ap (λ (x : ℕ). number_bytes x) e) (number_bytes_law s is at k number)
 
@@ -62,7 +62,7 @@ module _ (s : List ℕ) (n at : ℕ) (r : SheetRule) (k : Span) (number : number
       ap (λ (k : SheetKind). weight_sum (rule_by s k r.positive r.negated)) e in
       omega (arith, d, l, w)
 
-  basic_ran : k.value ≡ kind_number basic → basic_at s n k.next ≡ GotRule r → RuleRan s n at r (rule_meant s r)
+  basic_ran : k.value ≡ kind_number basic → basic_at s n k.next ≡ Ok r → RuleRan s n at r (rule_meant s r)
   unfolding basic_at rule_bytes
   basic_ran v e =
       let g = head_ran s n k.next _ r e in
@@ -91,10 +91,10 @@ module _ (s : List ℕ) (n at : ℕ) (r : SheetRule) (k : Span) (number : number
             (joined (h.bytes is) (stands_as (ones_lists xs ys) (plain_bytes s n (Basic g.0) g.1 r (λ c. refl) b is)));
       })
 
-  choice_ran : k.value ≡ kind_number choice → choice_at s n k.next ≡ GotRule r → RuleRan s n at r (rule_meant s r)
+  choice_ran : k.value ≡ kind_number choice → choice_at s n k.next ≡ Ok r → RuleRan s n at r (rule_meant s r)
   unfolding choice_at rule_bytes
   choice_ran v e =
-      let g = from_read RefusedRule _ (list_at s 1 n k.next) not_rule e in
+      let g = from_read Err _ (list_at s 1 n k.next) not_ok e in
       let h = list_ran s 1 n k.next g.0 g.1 in
       let b = body_ran s n (Choice g.0) g.0.next r g.2 in
       let xs = numbers_of s r.positive.atoms in
@@ -130,7 +130,7 @@ module _ (s : List ℕ) (n at : ℕ) (r : SheetRule) (k : Span) (number : number
       (place : ℕ)
       (h : HeadRan s n k.next head place)
       (bound : Span)
-      (number' : number_at s place ≡ Got bound)
+      (number' : number_at s place ≡ Ok bound)
     where
       bound_bytes :
           (v : ℕ) → k.value ≡ v → IsBytes s → {x : List ℕ} → Stands s bound.next x r.next
@@ -212,24 +212,27 @@ module _ (s : List ℕ) (n at : ℕ) (r : SheetRule) (k : Span) (number : number
           })
 
   bounded_ran :
-      (weighs : Bool) → k.value ≡ kind_number (bounded_kind weighs) → bounded_at s n weighs k.next ≡ GotRule r
+      (weighs : Bool) → k.value ≡ kind_number (cond weighs weight constraint) → bounded_at s n weighs k.next ≡ Ok r
       → RuleRan s n at r (rule_meant s r)
   unfolding bounded_at
   bounded_ran false v e =
       let g = head_ran s n k.next _ r e in
-      let q = from_read RefusedRule _ (number_at s g.1) not_rule g.3 in
+      let q = from_read Err _ (number_at s g.1) not_ok g.3 in
       let d = from_dead s g.1 _ r q.2 in
       constraint_ran g.0 g.1 g.2 q.0 q.1 v (body_ran s n (Constraint g.0 q.0.value) q.0.next r d.0) d.1
   bounded_ran true v e =
       let g = head_ran s n k.next _ r e in
-      let q = from_read RefusedRule _ (number_at s g.1) not_rule g.3 in
+      let q = from_read Err _ (number_at s g.1) not_ok g.3 in
       let d = from_dead s g.1 _ r q.2 in
       weight_ran g.0 g.1 g.2 q.0 q.1 v (body_ran s n (Weight g.0 q.0.value) q.0.next r d.0) d.1
 
-pub rule_ran : (s : List ℕ) (n at : ℕ) (r : SheetRule) → rule_at s n at ≡ GotRule r → RuleRan s n at r (rule_meant s r)
-rule_ran s n at r e = let g = cases s n at r e in by g.0 g.1 g.2
-  where
-    by : (k : Span) → number_at s at ≡ Got k → Cases s n at r k → RuleRan s n at r (rule_meant s r)
-    by k h (basic_case v z) = basic_ran s n at r k h v z
-    by k h (bounded_case weighs v z) = bounded_ran s n at r k h weighs v z
-    by k h (choice_case v z) = choice_ran s n at r k h v z
+  -- by the kind that its number names
+  kind_ran : (kind : Kind) → k.value ≡ kind_number kind → kind_at s n kind k.next ≡ Ok r → RuleRan s n at r (rule_meant s r)
+  unfolding kind_at
+  kind_ran basic v e = basic_ran v e
+  kind_ran constraint v e = bounded_ran false v e
+  kind_ran choice v e = choice_ran v e
+  kind_ran weight v e = bounded_ran true v e
+
+pub rule_ran : (s : List ℕ) (n at : ℕ) (r : SheetRule) → rule_at s n at ≡ Ok r → RuleRan s n at r (rule_meant s r)
+rule_ran s n at r e = let g = cases s n at r e in kind_ran s n at r g.0 g.1 g.2 g.3 g.4

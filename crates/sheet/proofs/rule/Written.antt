@@ -9,34 +9,36 @@ use lib.ListN.{length, drop, length-append}
 use borrow.Author.Tests.{lt-ltb}
 use Rattle.rules.specs.Limits.{number_most}
 use Rattle.rules.specs.Rule.{Rule, Weighted, Within, ones, basic_rule, constraint_rule, choice_rule, weight_rule, atoms_of, weights_of}
+use Rattle.rules.specs.declared.kind.Kind.TheVariants.{Basic as basic, Constraint as constraint, Choice as choice, Weight as weight}
 use Rattle.rules.specs.Sum.{pick}
 use Rattle.rules.specs.Stable.{weight_sum, Dead, Living}
 use Rattle.rules.specs.declared.Atom.{Atom}
 use Rattle.rules.proofs.Inside.{atom_made}
 use Rattle.rules.proofs.Dead.{length_living}
-use Rattle.numbers.specs.Answer.{refusal, read_then, atom_then, span}
+use Rattle.numbers.specs.Answer.{refusal, read_then, span}
+use Rattle.numbers.specs.declared.reason.Reason.TheVariants.{BoundTooHigh}
 use Rattle.numbers.specs.Number.{number_at}
 use Rattle.numbers.specs.Lists.{numbers_of}
 use Rattle.numbers.specs.Shown.Encode.{number_bytes, numbers_bytes, list_bytes, none, Rising}
-use Rattle.numbers.specs.declared.Read.TheVariants.{Got}
 use Rattle.numbers.proofs.number.Encoded.{number_read, past}
 use Rattle.numbers.proofs.lists.Whole.{list_span, list_read, list_numbers, list_past_law}
 use Rattle.sheet.specs.Body.{need_for, body_at, unless_above, unless_dead}
-use Rattle.sheet.specs.Rule.{head_then, bounded, basic_at, bounded_at, choice_at, rule_at}
+use Rattle.sheet.specs.Rule.{head_then, bounded, basic_at, bounded_at, choice_at, kind_at, rule_at}
 use Rattle.sheet.specs.RuleMeaning.{paired, paired_in, rule_by, rule_meant}
 use Rattle.sheet.specs.Shown.Encode.{rule_bytes, before_bound, ProperRule, is_basic, is_constraint, is_choice, is_weight, Light}
 use Rattle.sheet.specs.declared.SheetKind.{SheetKind}
 use Rattle.sheet.specs.declared.SheetKind.TheVariants.{Basic, Constraint, Choice, Weight}
 use Rattle.sheet.specs.declared.SheetRule.{SheetRule}
-use Rattle.sheet.specs.declared.RuleRead.{RuleRead}
-use Rattle.sheet.specs.declared.RuleRead.TheVariants.{Got as GotRule, Refused as RefusedRule}
 use Rattle.sheet.proofs.body.Ran.{body_ran}
 use Rattle.sheet.proofs.body.Dead.{Lives, lives_on}
 use Rattle.sheet.proofs.body.Written.{BodyWritten, body_written}
+use Rattle.sheet.proofs.rule.KindNumber.{kind_made}
 use Rattle.sheet.proofs.rule.Apart.{plain_body, sizes, weigh_back}
+use Rattle.std.specs.Prelude.{Result, Ok, Err}
+use Rattle.numbers.specs.declared.Refusal.{Refusal}
 
 pub record RuleWritten (s : List ℕ) (n at : ℕ) (m : Rule) (q : List ℕ) (r : SheetRule) : Type 0 where
-  pub reads : rule_at s n at ≡ unless_dead s (at + before_bound m) (GotRule r)
+  pub reads : rule_at s n at ≡ unless_dead s (at + before_bound m) (Ok r)
   pub means : rule_meant s r ≡ m
   pub need : r.need ≡ m.need
   pub rest : drop r.next s ≡ q
@@ -50,23 +52,23 @@ module _ (s : List ℕ) {m : Rule} (r : SheetRule) (means : rule_meant s r ≡ m
   dies d = omega (arith, need, d, ap (λ (t : Rule). weight_sum t) means)
 
 module _ {s : List ℕ} {n at : ℕ} {m : Rule} {q : List ℕ} {r : SheetRule} (w : RuleWritten s n at m q r) where
-  pub living_read : Living m → rule_at s n at ≡ GotRule r
-  living_read l = w.reads ∙ lives_on s (at + before_bound m) (GotRule r) r refl (lives s r w.means w.need l)
+  pub living_read : Living m → rule_at s n at ≡ Ok r
+  living_read l = w.reads ∙ lives_on s (at + before_bound m) (Ok r) r refl (lives s r w.means w.need l)
 
-  pub dead_read : Dead m → rule_at s n at ≡ RefusedRule (refusal 16 (at + before_bound m))
-  unfolding unless_dead unless_above pick
+  pub dead_read : Dead m → rule_at s n at ≡ Err (refusal BoundTooHigh (at + before_bound m))
+  unfolding unless_dead read_then unless_above pick
   dead_read d =
       w.reads
-      ∙ ap (λ (b : Bool). pick b (RefusedRule (refusal 16 (at + before_bound m))) (GotRule r))
+      ∙ ap (λ (b : Bool). pick b (Err (refusal BoundTooHigh (at + before_bound m))) (Ok r))
       (lt-ltb (weight_sum (rule_meant s r)) r.need (dies s r w.means w.need d))
 
 abbrev numbered : ℕ → Atom
 numbered h = record { number = h }
 
 head_read :
-    (s : List ℕ) (n at h : ℕ) (q : List ℕ) (next : Atom → ℕ → RuleRead) → n ≤ number_most → Within n h
+    (s : List ℕ) (n at h : ℕ) (q : List ℕ) (next : Atom → ℕ → Result SheetRule Refusal) → n ≤ number_most → Within n h
     → drop at s ≡ number_bytes h ++ q → head_then s n at next ≡ next (numbered h) (at + length (number_bytes h))
-unfolding head_then read_then atom_then
+unfolding head_then read_then
 head_read s n at h q next m w d =
     simp (number_read s at h q (omega (arith, w.high)) d, atom_made n h w)
 
@@ -98,11 +100,11 @@ module _ {s : List ℕ} {n at : ℕ} {kind : SheetKind} {xs ys vs ws q : List �
 module _ (s : List ℕ) (n at : ℕ) (m : n ≤ number_most) where
   -- a rule without a bound
   plainly :
-      (t : Rule) (q : List ℕ) (r : SheetRule) → rule_at s n at ≡ GotRule r → rule_meant s r ≡ t → r.need ≡ t.need → Living t
+      (t : Rule) (q : List ℕ) (r : SheetRule) → rule_at s n at ≡ Ok r → rule_meant s r ≡ t → r.need ≡ t.need → Living t
       → drop r.next s ≡ q → RuleWritten s n at t q r
   plainly t q r e means need l rest =
       record {
-        reads = e ∙ sym (lives_on s (at + before_bound t) (GotRule r) r refl (lives s r means need l));
+        reads = e ∙ sym (lives_on s (at + before_bound t) (Ok r) r refl (lives s r means need l));
         means = means;
         need = need;
         rest = rest;
@@ -111,7 +113,7 @@ module _ (s : List ℕ) (n at : ℕ) (m : n ≤ number_most) where
   basic_written :
       (h : ℕ) (xs ys q : List ℕ) → Within n h → Rising n xs → Rising n ys → drop at s ≡ rule_bytes (basic_rule h xs ys) ++ q
       → (r : SheetRule) × RuleWritten s n at (basic_rule h xs ys) q r
-  unfolding rule_bytes rule_at basic_at read_then pick rule_meant flat_map number_most
+  unfolding rule_bytes rule_at kind_at basic_at read_then rule_meant flat_map number_most
   basic_written h xs ys q w rx ry d =
       let x : List ℕ = (list_bytes xs ++ list_bytes ys) ++ q in
       let d₁ : drop at s ≡ number_bytes 1 ++ (number_bytes h ++ x) =
@@ -124,7 +126,7 @@ module _ (s : List ℕ) (n at : ℕ) (m : n ≤ number_most) where
       let b = body_written s n (Basic (numbered h)) a₂ xs ys [] [] q m rx ry none none refl refl (past s (number_bytes h) x a₁ d₂) in (
         b.0,
         plainly (basic_rule h xs ys) q b.0
-            (simp (number_read s at 1 _ (omega arith) d₁, head_read s n a₁ h x (λ head next. body_at s n (Basic head) next) m w d₂, b.1.reads))
+            (simp (number_read s at 1 _ (omega arith) d₁, kind_made basic, head_read s n a₁ h x (λ head next. body_at s n (Basic head) next) m w d₂, b.1.reads))
             (by_kind b.1 ∙ by_lists b.1 (λ us vs. basic_rule h us vs))
             (needed b.1)
             (length_living (basic_rule h xs ys) xs ys refl refl refl)
@@ -144,7 +146,7 @@ module _ (s : List ℕ) (n at : ℕ) (m : n ≤ number_most) where
   choice_written :
       (hs xs ys q : List ℕ) → 1 ≤ length hs → Rising n hs → Rising n xs → Rising n ys → drop at s ≡ rule_bytes (choice_rule hs xs ys) ++ q
       → (r : SheetRule) × RuleWritten s n at (choice_rule hs xs ys) q r
-  unfolding rule_bytes rule_at choice_at read_then pick rule_meant flat_map number_most
+  unfolding rule_bytes rule_at kind_at choice_at read_then rule_meant flat_map number_most
   choice_written hs xs ys q o rh rx ry d =
       let x : List ℕ = (list_bytes xs ++ list_bytes ys) ++ q in
       let d₁ : drop at s ≡ number_bytes 3 ++ (list_bytes hs ++ x) =
@@ -159,7 +161,7 @@ module _ (s : List ℕ) (n at : ℕ) (m : n ≤ number_most) where
       (list_past_law s 1 n a₁ hs x m rh d₂) in (
         b.0,
         plainly (choice_rule hs xs ys) q b.0
-            (simp (number_read s at 3 _ (omega arith) d₁, list_read s 1 n a₁ hs x m rh d₂ o, b.1.reads))
+            (simp (number_read s at 3 _ (omega arith) d₁, kind_made choice, list_read s 1 n a₁ hs x m rh d₂ o, b.1.reads))
             (by_kind b.1
             ∙ by_lists b.1 (λ us vs. choice_rule (numbers_of s (list_span a₁ hs)) us vs)
             ∙ ap (λ (us : List ℕ). choice_rule us xs ys) (list_numbers s 1 n a₁ hs x m rh d₂))
@@ -173,7 +175,7 @@ module _ (s : List ℕ) (n at : ℕ) (m : n ≤ number_most) where
 
   -- a kind, a head and a bound that were written, before a body
   record BoundWritten (weighs : Bool) (v h k : ℕ) (q : List ℕ) : Type 0 where
-    kind : number_at s at ≡ Got (span v at (at + length (number_bytes v)))
+    kind : number_at s at ≡ Ok (span v at (at + length (number_bytes v)))
     place : ℕ
     bound :
         bounded_at s n weighs (at + length (number_bytes v))
@@ -195,7 +197,7 @@ module _ (s : List ℕ) (n at : ℕ) (m : n ≤ number_most) where
       let read : bounded_at s n weighs a₁ ≡ unless_dead s a₂ (body_at s n (bounded weighs (numbered h) k) a₃) =
       simp (
         head_read s n a₁ h _
-            (λ head next. read_then RefusedRule (number_at s next)
+            (λ head next. read_then Err (number_at s next)
             (λ bound. unless_dead s next (body_at s n (bounded weighs head bound.value) bound.next)))
             m
             w
@@ -217,7 +219,7 @@ module _ (s : List ℕ) (n at : ℕ) (m : n ≤ number_most) where
   constraint_written :
       (h k : ℕ) (xs ys q : List ℕ) → Within n h → k ≤ number_most → Rising n xs → Rising n ys
       → drop at s ≡ rule_bytes (constraint_rule h k xs ys) ++ q → (r : SheetRule) × RuleWritten s n at (constraint_rule h k xs ys) q r
-  unfolding rule_bytes rule_at read_then pick rule_meant flat_map number_most
+  unfolding rule_bytes rule_at kind_at read_then rule_meant flat_map number_most
   constraint_written h k xs ys q w mk rx ry d =
       let lists : List ℕ = list_bytes (atoms_of (ones xs)) ++ list_bytes (atoms_of (ones ys)) in
       let g = bound_written false 2 h k lists q (omega arith) w mk d in
@@ -226,7 +228,7 @@ module _ (s : List ℕ) (n at : ℕ) (m : n ≤ number_most) where
       (g.rest ∙ plain_body xs ys q) in (
         b.0,
         record {
-          reads = simp (g.kind, g.bound, b.1.reads);
+          reads = simp (g.kind, kind_made constraint, g.bound, b.1.reads);
           means = by_kind b.1 ∙ by_lists b.1 (λ us vs. constraint_rule h k us vs);
           need = needed b.1;
           rest = b.1.rest;
@@ -237,7 +239,7 @@ module _ (s : List ℕ) (n at : ℕ) (m : n ≤ number_most) where
       (h k : ℕ) (xs ys : List Weighted) (q : List ℕ) → Within n h → k ≤ number_most → Rising n (atoms_of xs) → Rising n (atoms_of ys)
       → Light (weights_of xs) → Light (weights_of ys) → drop at s ≡ rule_bytes (weight_rule h k xs ys) ++ q
       → (r : SheetRule) × RuleWritten s n at (weight_rule h k xs ys) q r
-  unfolding rule_bytes rule_at read_then pick rule_meant number_most
+  unfolding rule_bytes rule_at kind_at read_then rule_meant number_most
   weight_written h k xs ys q w mk rx ry lx ly d =
       let lists : List ℕ = list_bytes (atoms_of xs) ++ list_bytes (atoms_of ys) in
       let weights : List ℕ = numbers_bytes (weights_of xs) ++ numbers_bytes (weights_of ys) in
@@ -249,7 +251,7 @@ module _ (s : List ℕ) (n at : ℕ) (m : n ≤ number_most) where
       (g.rest ∙ append_assoc lists weights q) in (
         b.0,
         record {
-          reads = simp (g.kind, g.bound, b.1.reads);
+          reads = simp (g.kind, kind_made weight, g.bound, b.1.reads);
           means = by_kind b.1 ∙ weighed_back b.1 (λ us vs. weight_rule h k us vs) xs ys refl refl refl refl;
           need = needed b.1;
           rest = b.1.rest;

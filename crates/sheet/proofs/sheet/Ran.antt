@@ -14,8 +14,7 @@ use Rattle.numbers.specs.Lists.{list_at}
 use Rattle.numbers.specs.Shown.Encode.{number_bytes, IsBytes}
 use Rattle.numbers.specs.declared.Refusal.{Refusal}
 use Rattle.numbers.specs.declared.Span.{Span}
-use Rattle.numbers.specs.declared.Read.TheVariants.{Got, Refused}
-use Rattle.numbers.proofs.Answer.{from_read, from_yes, from_no, not_got, same_span}
+use Rattle.numbers.proofs.Answer.{from_read, from_yes, from_no, not_ok, same_ok}
 use Rattle.numbers.proofs.Stands.{Stands, joined, stands_as}
 use Rattle.numbers.proofs.number.Most.{limited, number_far}
 use Rattle.numbers.proofs.number.Encoded.{number_bytes_law}
@@ -26,43 +25,38 @@ use Rattle.sheet.specs.Sheet.{edition_at, tail_at, rest_at, whole_at, sheet_read
 use Rattle.sheet.specs.Meaning.{rules_from, sheet_meant}
 use Rattle.sheet.specs.Shown.Encode.{rules_bytes, encode, AllLiving, WellFormed, ProperRules, rules_size}
 use Rattle.sheet.specs.declared.Outline.{Outline}
-use Rattle.sheet.specs.declared.SheetRead.TheVariants.{Accepted, Refused as RefusedSheet}
 use Rattle.sheet.proofs.sheet.Rules.{rules_ran}
-
-pub not_accepted : {o : Outline} (why : Refusal) → RefusedSheet why ≡ Accepted o → ⊥
-not_accepted why e = let z : ◌≡◌ {A = ℕ} 0 1 = cc in omega arith
-
-pub same_outline : {o t : Outline} → Accepted o ≡ Accepted t → o ≡ t
-same_outline e = cc
+use Rattle.std.specs.Prelude.{Result, Ok, Err}
 
 -- the parts of an accepted sheet
 pub record SheetParts (s : List ℕ) (o : Outline) : Type 0 where
   pub edition : Span
-  pub first : (number_at s 0 ≡ Got edition) × (edition.value ≡ 1)
+  pub first : (number_at s 0 ≡ Ok edition) × (edition.value ≡ 1)
   pub atoms : Span
-  pub second : within_at s 0 atoms_most edition.next ≡ Got atoms
+  pub second : within_at s 0 atoms_most edition.next ≡ Ok atoms
   pub atoms_are : o.atoms ≡ atoms.value
   pub count : Span
-  pub third : within_at s 0 rules_most atoms.next ≡ Got count
-  pub fourth : rules_at s o.atoms count.value count.next ≡ Got o.rules
-  pub fifth : list_at s 0 o.atoms o.rules.next ≡ Got o.ins
-  pub sixth : list_at s 0 o.atoms o.ins.next ≡ Got o.outs
+  pub third : within_at s 0 rules_most atoms.next ≡ Ok count
+  pub fourth : rules_at s o.atoms count.value count.next ≡ Ok o.rules
+  pub fifth : list_at s 0 o.atoms o.rules.next ≡ Ok o.ins
+  pub sixth : list_at s 0 o.atoms o.ins.next ≡ Ok o.outs
   pub ends : length s ≤ o.outs.next
   pub short : length s ≤ bytes_most
 
-pub parts : (s : List ℕ) (o : Outline) → sheet_read s ≡ Accepted o → SheetParts s o
+pub parts : (s : List ℕ) (o : Outline) → sheet_read s ≡ Ok o → SheetParts s o
 unfolding sheet_read whole_at edition_at rest_at tail_at
 parts s o e =
-    let b = from_no (ltb bytes_most (length s)) _ _ (not_accepted _) e in
+    let b = from_no (ltb bytes_most (length s)) _ _ (not_ok _) e in
     whole (ltb-false bytes_most (length s) b.0) b.1
   where
     made :
-        (d a c r i u : Span) → (number_at s 0 ≡ Got d) × (d.value ≡ 1) → within_at s 0 atoms_most d.next ≡ Got a
-        → within_at s 0 rules_most a.next ≡ Got c → rules_at s a.value c.value c.next ≡ Got r
-        → list_at s 0 a.value r.next ≡ Got i → list_at s 0 a.value i.next ≡ Got u → length s ≤ u.next
-        → length s ≤ bytes_most → Accepted (record { atoms = a.value; rules = r; ins = i; outs = u }) ≡ Accepted o → SheetParts s o
+        (d a c r i u : Span) → (number_at s 0 ≡ Ok d) × (d.value ≡ 1) → within_at s 0 atoms_most d.next ≡ Ok a
+        → within_at s 0 rules_most a.next ≡ Ok c → rules_at s a.value c.value c.next ≡ Ok r
+        → list_at s 0 a.value r.next ≡ Ok i → list_at s 0 a.value i.next ≡ Ok u → length s ≤ u.next
+        → length s ≤ bytes_most
+        → ◌≡◌ {A = Result Outline Refusal} (Ok (record { atoms = a.value; rules = r; ins = i; outs = u })) (Ok o) → SheetParts s o
     made d a c r i u hd ha hc hr hi hu hl hb z =
-        subst (λ (t : Outline). SheetParts s t) (same_outline z)
+        subst (λ (t : Outline). SheetParts s t) (same_ok z)
         (record {
           edition = d;
           first = hd;
@@ -79,41 +73,41 @@ parts s o e =
         })
 
     tail :
-        (d a c r : Span) → (number_at s 0 ≡ Got d) × (d.value ≡ 1) → within_at s 0 atoms_most d.next ≡ Got a
-        → within_at s 0 rules_most a.next ≡ Got c → rules_at s a.value c.value c.next ≡ Got r → length s ≤ bytes_most
-        → tail_at s a.value r ≡ Accepted o → SheetParts s o
+        (d a c r : Span) → (number_at s 0 ≡ Ok d) × (d.value ≡ 1) → within_at s 0 atoms_most d.next ≡ Ok a
+        → within_at s 0 rules_most a.next ≡ Ok c → rules_at s a.value c.value c.next ≡ Ok r → length s ≤ bytes_most
+        → tail_at s a.value r ≡ Ok o → SheetParts s o
     tail d a c r hd ha hc hr hb z =
-        let i = from_read RefusedSheet _ (list_at s 0 a.value r.next) not_accepted z in
-        let u = from_read RefusedSheet _ (list_at s 0 a.value i.0.next) not_accepted i.2 in
-        let l = from_no (ltb u.0.next (length s)) _ _ (not_accepted _) u.2 in
+        let i = from_read Err _ (list_at s 0 a.value r.next) not_ok z in
+        let u = from_read Err _ (list_at s 0 a.value i.0.next) not_ok i.2 in
+        let l = from_no (ltb u.0.next (length s)) _ _ (not_ok _) u.2 in
         made d a c r i.0 u.0 hd ha hc hr i.1 u.1 (ltb-false u.0.next (length s) l.0) hb l.1
 
     rest :
-        (d a : Span) → (number_at s 0 ≡ Got d) × (d.value ≡ 1) → within_at s 0 atoms_most d.next ≡ Got a → length s ≤ bytes_most
-        → rest_at s a.value a.next ≡ Accepted o → SheetParts s o
+        (d a : Span) → (number_at s 0 ≡ Ok d) × (d.value ≡ 1) → within_at s 0 atoms_most d.next ≡ Ok a → length s ≤ bytes_most
+        → rest_at s a.value a.next ≡ Ok o → SheetParts s o
     rest d a hd ha hb z =
-        let c = from_read RefusedSheet _ (within_at s 0 rules_most a.next) not_accepted z in
-        let r = from_read RefusedSheet _ (rules_at s a.value c.0.value c.0.next) not_accepted c.2 in
+        let c = from_read Err _ (within_at s 0 rules_most a.next) not_ok z in
+        let r = from_read Err _ (rules_at s a.value c.0.value c.0.next) not_ok c.2 in
         tail d a c.0 r.0 hd ha c.1 r.1 hb r.2
 
-    edition_is : (d : Span) → edition_at s ≡ Got d → (number_at s 0 ≡ Got d) × (d.value ≡ 1)
+    edition_is : (d : Span) → edition_at s ≡ Ok d → (number_at s 0 ≡ Ok d) × (d.value ≡ 1)
     edition_is d z =
-        let f = from_read Refused _ (number_at s 0) not_got z in
-        let v = from_yes (eqb f.0.value 1) _ _ (not_got _) f.2 in
-        let w : f.0 ≡ d = same_span v.1 in
-        (f.1 ∙ ap (λ (q : Span). Got q) w, sym (ap (λ (q : Span). q.value) w) ∙ eqb-true f.0.value 1 v.0)
+        let f = from_read Err _ (number_at s 0) not_ok z in
+        let v = from_yes (eqb f.0.value 1) _ _ (not_ok _) f.2 in
+        let w : f.0 ≡ d = same_ok v.1 in
+        (f.1 ∙ ap (λ (q : Span). Ok q) w, sym (ap (λ (q : Span). q.value) w) ∙ eqb-true f.0.value 1 v.0)
 
-    whole : length s ≤ bytes_most → whole_at s ≡ Accepted o → SheetParts s o
+    whole : length s ≤ bytes_most → whole_at s ≡ Ok o → SheetParts s o
     whole hb z =
-        let d = from_read RefusedSheet _ (edition_at s) not_accepted z in
-        let a = from_read RefusedSheet _ (within_at s 0 atoms_most d.0.next) not_accepted d.2 in
+        let d = from_read Err _ (edition_at s) not_ok z in
+        let a = from_read Err _ (within_at s 0 atoms_most d.0.next) not_ok d.2 in
         rest d.0 a.0 (edition_is d.0 d.1) a.1 hb a.2
 
 -- an accepted sheet, and what it says
 pub record SheetRan (s : List ℕ) (o : Outline) : Type 0 where
   pub well_formed : WellFormed (sheet_meant s o)
   pub count : length (sheet_meant s o).rules ≡ o.rules.value
-  pub reads : rules_at s o.atoms o.rules.value o.rules.first ≡ Got o.rules
+  pub reads : rules_at s o.atoms o.rules.value o.rules.first ≡ Ok o.rules
   pub far :
       rules_size (sheet_meant s o).rules + 3 * length (sheet_meant s o).rules
       + (length (sheet_meant s o).compute_in + length (sheet_meant s o).compute_out) + 5
@@ -125,7 +119,7 @@ pub record SheetRan (s : List ℕ) (o : Outline) : Type 0 where
 whole_bytes : (s bytes : List ℕ) (next : ℕ) → length s ≤ next → Stands s 0 bytes next → s ≡ bytes
 whole_bytes s bytes next h a = a.is ∙ ap (λ (q : List ℕ). bytes ++ q) (drop_of_length-le s h) ∙ append-nil bytes
 
-pub sheet_ran : (s : List ℕ) (o : Outline) → sheet_read s ≡ Accepted o → SheetRan s o
+pub sheet_ran : (s : List ℕ) (o : Outline) → sheet_read s ≡ Ok o → SheetRan s o
 unfolding sheet_meant encode rules_at
 sheet_ran s o e =
     let p = parts s o e in

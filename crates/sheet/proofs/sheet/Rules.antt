@@ -13,43 +13,35 @@ use Rattle.numbers.specs.Lists.{in_turn, up_to}
 use Rattle.numbers.specs.Shown.Encode.{IsBytes}
 use Rattle.numbers.specs.declared.Refusal.{Refusal}
 use Rattle.numbers.specs.declared.Span.{Span}
-use Rattle.numbers.specs.declared.Read.TheVariants.{Got, Refused}
-use Rattle.numbers.proofs.Answer.{from_read, not_got, same_span}
+use Rattle.numbers.proofs.Answer.{from_read, not_ok, same_ok}
 use Rattle.numbers.proofs.Stands.{Stands, nothing, joined, stands_as}
-use Rattle.sheet.specs.Rule.{rule_at, rule_then, rule_step}
+use Rattle.sheet.specs.Rule.{rule_at, rule_step}
 use Rattle.sheet.specs.RuleMeaning.{rule_meant}
 use Rattle.sheet.specs.Meaning.{rules_from}
 use Rattle.sheet.specs.Shown.Encode.{rules_bytes, ProperRules, no_rules, and_rule, AllLiving, rules_size}
 use Rattle.sheet.specs.declared.SheetRule.{SheetRule}
-use Rattle.sheet.specs.declared.RuleRead.{RuleRead}
-use Rattle.sheet.specs.declared.RuleRead.TheVariants.{Got as GotRule, Refused as RefusedRule}
 use Rattle.sheet.proofs.rule.Means.{rule_ran}
-
-pub from_rule :
-    {A : Type 0} {z : A} (up : Refusal → A) (next : SheetRule → A) (a : RuleRead) → ((why : Refusal) → up why ≡ z → ⊥)
-    → rule_then up a next ≡ z → (r : SheetRule) × (a ≡ GotRule r) × (next r ≡ z)
-unfolding rule_then
-from_rule up next (GotRule r) other e = (r, refl, e)
-from_rule up next (RefusedRule why) other e = absurd (other why e)
+use Rattle.std.specs.Prelude.{Result, Ok, Err}
+use Rattle.numbers.specs.Answer.{read_then}
 
 pub rules_more :
-    (s : List ℕ) (n left at : ℕ) (r : SheetRule) → rule_at s n at ≡ GotRule r
+    (s : List ℕ) (n left at : ℕ) (r : SheetRule) → rule_at s n at ≡ Ok r
     → rules_from (suc left) s n at ≡ rule_meant s r ∷ rules_from left s n r.next
-unfolding rules_from rule_then
+unfolding rules_from read_then
 rules_more s n left at r e =
-    ap (λ (t : RuleRead). rule_then (λ why. []) t (λ r. rule_meant s r ∷ rules_from left s n r.next)) e
+    ap (λ (t : Result SheetRule Refusal). read_then (λ why. []) t (λ r. rule_meant s r ∷ rules_from left s n r.next)) e
 
 -- the next rule of a run that was read, and the run of the others
 pub rules_next :
-    (s : List ℕ) (n left before : ℕ) (done p : Span) → in_turn (rule_step s n) (suc left) before done ≡ Got p
-    → (r : SheetRule) × (rule_at s n done.next ≡ GotRule r) × (in_turn (rule_step s n) left before (up_to done r.next) ≡ Got p)
+    (s : List ℕ) (n left before : ℕ) (done p : Span) → in_turn (rule_step s n) (suc left) before done ≡ Ok p
+    → (r : SheetRule) × (rule_at s n done.next ≡ Ok r) × (in_turn (rule_step s n) left before (up_to done r.next) ≡ Ok p)
 unfolding in_turn rule_step
 rules_next s n left before done p e =
-    let g = from_read Refused _ (rule_step s n before done.next) not_got e in
-    let h = from_rule Refused _ (rule_at s n done.next) not_got g.1 in (
+    let g = from_read Err _ (rule_step s n before done.next) not_ok e in
+    let h = from_read Err _ (rule_at s n done.next) not_ok g.1 in (
       h.0,
       h.1,
-      subst (λ (q : Span). in_turn (rule_step s n) left q.value (up_to done q.next) ≡ Got p) (sym (same_span h.2)) g.2,
+      subst (λ (q : Span). in_turn (rule_step s n) left q.value (up_to done q.next) ≡ Ok p) (sym (same_ok h.2)) g.2,
     )
 
 and_living : {r : Rule} {rs : List Rule} → Living r → AllLiving rs → AllLiving (r ∷ rs)
@@ -64,11 +56,11 @@ pub record RulesRan (s : List ℕ) (n left at next : ℕ) : Type 0 where
   pub bytes : IsBytes s → Stands s at (rules_bytes (rules_from left s n at)) next
 
 pub rules_ran :
-    (s : List ℕ) (n left before : ℕ) (done p : Span) → in_turn (rule_step s n) left before done ≡ Got p
+    (s : List ℕ) (n left before : ℕ) (done p : Span) → in_turn (rule_step s n) left before done ≡ Ok p
     → RulesRan s n left done.next p.next
 unfolding in_turn rules_from rules_size flat_map
 rules_ran s n zero before done p e =
-    let q : done.next ≡ p.next = ap (λ (q : Span). q.next) (same_span e) in
+    let q : done.next ≡ p.next = ap (λ (q : Span). q.next) (same_ok e) in
     record { propers = no_rules; living = λ r m. absurd (Memᴰ.not-nil m); count = refl; far = omega arith; bytes = λ is. nothing done.next p.next q }
 rules_ran s n (suc left) before done p e =
     let g = rules_next s n left before done p e in

@@ -14,22 +14,20 @@ use Rattle.numbers.specs.Answer.{read_then, span}
 use Rattle.numbers.specs.Lists.{in_turn, up_to, numbers_of}
 use Rattle.numbers.specs.Shown.Encode.{number_bytes, list_bytes, Rising}
 use Rattle.numbers.specs.declared.Span.{Span}
-use Rattle.numbers.specs.declared.Read.{Read}
-use Rattle.numbers.specs.declared.Read.TheVariants.{Got, Refused}
 use Rattle.numbers.proofs.number.Encoded.{number_read, past}
 use Rattle.numbers.proofs.lists.Whole.{list_span, within_read, list_read, list_numbers, list_past_law}
 use Rattle.sheet.specs.Rule.{rule_step, rules_at}
-use Rattle.sheet.specs.Sheet.{edition_at, tail_at, rest_at, whole_at, sheet_read, sheet_then}
+use Rattle.sheet.specs.Sheet.{edition_at, tail_at, rest_at, whole_at, sheet_read}
 use Rattle.sheet.specs.Meaning.{rules_from, sheet_meant, accepted, refused, sheet_of}
 use Rattle.sheet.specs.Shown.Encode.{rule_bytes, rules_bytes, first_bytes, encode, AllLiving, WellFormed, ProperRules, no_rules, and_rule}
 use Rattle.sheet.specs.declared.SheetRule.{SheetRule}
 use Rattle.sheet.specs.declared.Outline.{Outline}
-use Rattle.sheet.specs.declared.SheetRead.{SheetRead}
-use Rattle.sheet.specs.declared.SheetRead.TheVariants.{Accepted, Refused as RefusedSheet}
 use Rattle.sheet.proofs.Places.{rule_within}
 use Rattle.sheet.proofs.rule.Laws.{step_got}
 use Rattle.sheet.proofs.rule.Written.{rule_written, living_read}
 use Rattle.sheet.proofs.sheet.Rules.{rules_more}
+use Rattle.std.specs.Prelude.{Result, Ok, Err}
+use Rattle.numbers.specs.declared.Refusal.{Refusal}
 
 -- a rule that was read ends where what was written for it ends
 after_rule :
@@ -83,7 +81,7 @@ rules_written s n before (suc turns) m (and_rule {r = t} {rs = rs} proper others
     let left : turns - length rs ≡ suc turns - suc (length rs) = omega arith in
     record {
       runs =
-          ap (λ (a : Read). read_then Refused a (λ one. in_turn (rule_step s n) turns one.value (up_to done one.next)))
+          ap (λ (a : Result Span Refusal). read_then Err a (λ one. in_turn (rule_step s n) turns one.value (up_to done one.next)))
           (step_got s n before done.next _ r refl e)
           ∙ o.runs
           ∙ ap₂ (λ (k p : ℕ). in_turn (rule_step s n) k before (up_to done p)) left place;
@@ -99,7 +97,7 @@ at_end_law s next d = omega (arith, ap length d, length-drop next s)
 pub record TailWritten (s : List ℕ) (n : ℕ) (rules : Span) (xs ys : List ℕ) : Type 0 where
   pub ins : Span
   pub outs : Span
-  pub reads : tail_at s n rules ≡ Accepted (record { atoms = n; rules = rules; ins = ins; outs = outs })
+  pub reads : tail_at s n rules ≡ Ok (record { atoms = n; rules = rules; ins = ins; outs = outs })
   pub ins_are : numbers_of s ins ≡ xs
   pub outs_are : numbers_of s outs ≡ ys
 
@@ -140,14 +138,14 @@ unfolding sheet_meant
 sheet_is s n p i u sh e f g h =
     λ j. record { atoms = e j; rules = f j; compute_in = g j; compute_out = h j }
 
-pub meant : (s : List ℕ) (o : Outline) → sheet_read s ≡ Accepted o → sheet_of s ≡ accepted (sheet_meant s o)
-unfolding sheet_of sheet_then
-meant s o e = ap (λ (c : SheetRead). sheet_then refused c (λ o. accepted (sheet_meant s o))) e
+pub meant : (s : List ℕ) (o : Outline) → sheet_read s ≡ Ok o → sheet_of s ≡ accepted (sheet_meant s o)
+unfolding sheet_of read_then
+meant s o e = ap (λ (c : Result Outline Refusal). read_then refused c (λ o. accepted (sheet_meant s o))) e
 
 -- the edition and the counts, written before rules: what is left to read is the rules, and what comes after them
 pub record CountsWritten (s : List ℕ) (n count : ℕ) (rs : List Rule) (q : List ℕ) : Type 0 where
   pub place : ℕ
-  pub reads : sheet_read s ≡ read_then RefusedSheet (rules_at s n count place) (λ rules. tail_at s n rules)
+  pub reads : sheet_read s ≡ read_then Err (rules_at s n count place) (λ rules. tail_at s n rules)
   pub within : place ≤ length s
   pub ends : place + length (rules_bytes rs) ≡ length (first_bytes n count rs)
   pub rest : drop place s ≡ rules_bytes rs ++ q
@@ -201,9 +199,9 @@ sheet_written s sh w d l =
     let g = rules_written s n 0 c m w.rules w.living (omega arith) (span c a a) q b.within b.rest in
     let p : Span = span c a (a + length (rules_bytes sh.rules)) in
     let z : c - c ≡ 0 = omega arith in
-    let ran : rules_at s n c a ≡ Got p = g.runs ∙ ap (λ (k : ℕ). in_turn (rule_step s n) k 0 p) z in
+    let ran : rules_at s n c a ≡ Ok p = g.runs ∙ ap (λ (k : ℕ). in_turn (rule_step s n) k 0 p) z in
     let t = tail_written s n p sh.compute_in sh.compute_out m w.compute_in w.compute_out g.rest in
     let o : Outline = record { atoms = n; rules = p; ins = t.ins; outs = t.outs } in
-    let read : sheet_read s ≡ Accepted o =
-    b.reads ∙ ap (λ (r : Read). read_then RefusedSheet r (λ rules. tail_at s n rules)) ran ∙ t.reads in
+    let read : sheet_read s ≡ Ok o =
+    b.reads ∙ ap (λ (r : Result Span Refusal). read_then Err r (λ rules. tail_at s n rules)) ran ∙ t.reads in
     meant s o read ∙ ap accepted (sheet_is s n p t.ins t.outs sh refl g.means t.ins_are t.outs_are)

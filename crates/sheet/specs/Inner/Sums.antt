@@ -1,12 +1,11 @@
 -- "The sum of its own weights": of a weight rule it is computed as the weights are read.
-use Rattle.std.specs.Prelude.{ℕ, ◌+◌, ◌-◌, ◌≡◌, true, List}
+use Rattle.std.specs.Prelude.{ℕ, ◌+◌, ◌-◌, ◌≡◌, true, List, Result, Ok, Err}
 use Rattle.rules.specs.Sum.{tally}
 use Rattle.numbers.specs.Answer.{span, read_then}
 use Rattle.numbers.specs.Lists.{numbers_from, numbers_of}
 use Rattle.numbers.specs.Inner.Short.{Ahead}
+use Rattle.numbers.specs.declared.Refusal.{Refusal}
 use Rattle.numbers.specs.declared.Span.{Span}
-use Rattle.numbers.specs.declared.Read.{Read}
-use Rattle.numbers.specs.declared.Read.TheVariants.{Got, Refused}
 use Rattle.sheet.specs.Body.{weight_at, weights_at}
 use Rattle.sheet.specs.declared.Literals.{Literals}
 
@@ -14,9 +13,9 @@ abbrev pub sum_of : List ℕ → ℕ
 sum_of ws = tally (λ w. true) (λ w. w) ws
 
 -- so many weights from a place on, with the sum of them and of those before
-unfoldable pub sum_at : List ℕ → ℕ → ℕ → ℕ → Read
+unfoldable pub sum_at : List ℕ → ℕ → ℕ → ℕ → Result Span Refusal
 sum_at s before count at =
-    read_then Refused (weights_at s count at) (λ ws. Got (span (before + sum_of (numbers_of s ws)) ws.first ws.next))
+    read_then Err (weights_at s count at) (λ ws. Ok (span (before + sum_of (numbers_of s ws)) ws.first ws.next))
 
 -- So many of these weights are added to those before, up to a place: with those that are left it is the whole sum.
 abbrev pub AddedUp : List ℕ → ℕ → ℕ → ℕ → ℕ → ℕ → ℕ → Type 0

@@ -4,12 +4,13 @@
 -- follows": `01 FF FF FF 80 00`: 15 at 1. `80 80 80 80`: 15 at 0. `80 80 80`: 1 at 3. `80 80 80 00`: 2 at 0. Then refusal 16, "a bound
 -- of 500 over weights summing to 50": it is given "once the rule has been read in full", and "a bound equal to the sum is accepted, zero
 -- over an empty body too". The row with a weight that is too high is written from the limit of weights.
-use Rattle.std.specs.Prelude.{ℕ, suc, ◌+◌, Bool, true, false, ◌&&◌, List, [], ◌∷◌, ◌++◌, length, eqb}
+use Rattle.std.specs.Prelude.{ℕ, suc, ◌+◌, Bool, true, false, ◌&&◌, List, [], ◌∷◌, ◌++◌, length, eqb, Result, Ok, Err}
 use Rattle.rules.specs.Limits.{atoms_most, weight_most}
+use Rattle.numbers.specs.Answer.{reason_number}
 use Rattle.numbers.specs.Shown.Encode.{number_bytes}
+use Rattle.numbers.specs.declared.Refusal.{Refusal}
 use Rattle.sheet.specs.Sheet.{sheet_read}
-use Rattle.sheet.specs.declared.SheetRead.{SheetRead}
-use Rattle.sheet.specs.declared.SheetRead.TheVariants.{Accepted, Refused}
+use Rattle.sheet.specs.declared.Outline.{Outline}
 
 -- what is said of bytes: refused by a number at a place, or accepted with so many atoms and rules
 pub data Said : Type 0 where
@@ -76,11 +77,11 @@ bound_cases =
     ∷ case (three 1 (two_of (0x03 ∷ [])) (0x00 ∷ 0x00 ∷ 0x00 ∷ [])) 16 5
     ∷ []
 
-abbrev pub says : SheetRead → Said → Bool
-says (Accepted sheet) (accepted_with atoms rules) = eqb sheet.atoms atoms && eqb sheet.rules.value rules
-says (Accepted sheet) (refused_by number place) = false
-says (Refused why) (accepted_with atoms rules) = false
-says (Refused why) (refused_by number place) = eqb why.number number && eqb why.place place
+abbrev pub says : Result Outline Refusal → Said → Bool
+says (Ok sheet) (accepted_with atoms rules) = eqb sheet.atoms atoms && eqb sheet.rules.value rules
+says (Ok sheet) (refused_by number place) = false
+says (Err why) (accepted_with atoms rules) = false
+says (Err why) (refused_by number place) = eqb (reason_number why.reason) number && eqb why.place place
 
 -- is this said of every case?
 unfoldable pub all_said : List SheetCase → Bool

@@ -32,15 +32,15 @@ pub overflow_add-sum : goal.overflow_add-sum
 unfolding number_most
 overflow_add-sum c =
     let pre = c.requires in
-    let weight = limited _ _ _ _ _ (sym c.read_within-got.ensures ∙ c.in-Got.is) in
-    omega (arith, added_most _ _ _ _ _ _ _ c.loop.invariant.2 pre.1, pre.0, number_most_law _ _ _ weight.number)
+    let weight = limited _ _ _ _ _ (sym c.read_within-got.ensures ∙ c.in-Ok.is) in
+    omega (arith, added_most _ _ _ _ _ _ _ c.loop.invariant.2 pre.few, pre.fits, number_most_law _ _ _ weight.number)
 
 pub loop-preserved : goal.loop-preserved
 unfolding weight_at weight_most
 loop-preserved c =
     let l = c.loop in
     let here = c.loop-test.true in
-    let one = c.in-Got.is in (
+    let one = c.in-Ok.is in (
       omega arith,
       weights_alike _ _ _ _ _ ∙ turn _ _ l.counter _ _ l.invariant.1 here c.read_within-got.ensures _ one,
       added_weight _ _ _ _ l.counter l.sum l.at l.invariant.2 here c.read_within-got.ensures _ one,
@@ -50,5 +50,5 @@ pub returns : goal.returns
 returns c =
     let l = c.loop in
     let over = c.loop-test.false in
-    sum_got _ _ _ _ c.spanned.result c.spanned.ensures (turned _ _ l.counter _ _ l.invariant.1 over)
+    sum_got _ _ _ _ c.new.result c.new.ensures (turned _ _ l.counter _ _ l.invariant.1 over)
     (added_all _ _ _ _ l.counter l.sum l.at l.invariant.2 over)
