@@ -14,7 +14,7 @@ use Rattle.rules.specs.Map.{Map, side, want, ◌⊑◌}
 use Rattle.rules.specs.Inner.Bytes.{MapBytes}
 use Rattle.rules.proofs.Maps.{⊑_refl, ⊑_trans, sides}
 use Rattle.rules.proofs.Bytes.{written_above, written_below}
-use Rattle.std.specs.Prelude.{Ok, Err, IsErr}
+use Rattle.std.specs.Prelude.{Result, Ok, Err, IsErr}
 use Rattle.weigh.specs.Inner.Step.{Forces, Clashes, Concludes, Kept, Grown, Outcome, Went, Step, Till, Decided, Puts}
 use Rattle.weigh.specs.declared.Clash.{Clash}
 use Rattle.weigh.proofs.Bytes.{proper_map, proper_put, fewer_put}
@@ -25,7 +25,7 @@ after r (Err e) = Err e
 after r (Ok q) = Ok (r || q)
 
 -- there is one clash
-pub clashed : (r : Outcome) → IsErr r → r ≡ Err (record {})
+pub clashed : {T : Type 0} (r : Result T Clash) → IsErr r → r ≡ Err (record {})
 clashed (Err _) e = refl
 clashed (Ok _) e = absurd (false≢true e)
 
