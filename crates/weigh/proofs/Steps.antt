@@ -25,7 +25,7 @@ after r (Err e) = Err e
 after r (Ok q) = Ok (r || q)
 
 -- there is one clash
-pub clashed : {A : Type 0} (r : Result A Clash) → IsErr r → r ≡ Err (record {})
+pub clashed : {T : Type 0} (r : Result T Clash) → IsErr r → r ≡ Err (record {})
 clashed (Err _) e = refl
 clashed (Ok _) e = absurd (false≢true e)
 
