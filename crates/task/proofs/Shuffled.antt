@@ -1,6 +1,6 @@
 -- The work of a call comes to the same on every sheet of the same set of rules: their closed maps and their models are the same.
 use Prim.Native.Nat.{ℕ}
-use mathlib.Core.Path.{◌≡◌, refl, sym, ◌∙◌, ap, subst}
+use mathlib.Core.Path.{◌≡◌, sym, ◌∙◌, ap, subst}
 use mathlib.Core.List.{List}
 use Rattle.std.specs.Prelude.{Option, Some, None, Result, Ok, Err}
 use Rattle.rules.specs.Rule.{Sheet, Shuffled}
@@ -39,9 +39,9 @@ module _ {sh sh' : Sheet} (k : Shuffled sh sh') where
       → ClosedFor sh' (Over (side sh'.atoms m) qs) m' r
   over_shuffled m m' {ps} {qs} e r c = closed_for m' (Over (side sh.atoms m) ps) (Over (side sh'.atoms m) qs) (over m e) (back m e) r c
     where
-      back : (l : List ℕ) {as bs : List Literal} → as ≡ bs → (X : Map) → Over (side sh'.atoms l) bs X → Over (side sh.atoms l) as X
-      back l {as} {bs} g X h =
-          subst (λ (n : ℕ). Over (side n l) as X) (sym k.atoms) (subst (λ (ls : List Literal). Over (side sh'.atoms l) ls X) (sym g) h)
+      back : (l : List ℕ) {us vs : List Literal} → us ≡ vs → (X : Map) → Over (side sh'.atoms l) vs X → Over (side sh.atoms l) us X
+      back l {us} {vs} g X h =
+          subst (λ (n : ℕ). Over (side n l) us X) (sym k.atoms) (subst (λ (ls : List Literal). Over (side sh'.atoms l) ls X) (sym g) h)
 
   pub held_shuffled :
       (m' : List ℕ) (r : Result ℕ Clash) → ClosedFor sh (Holding (computed sh)) m' r → ClosedFor sh' (Holding (computed sh')) m' r

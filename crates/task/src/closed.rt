@@ -41,6 +41,8 @@ pub fn first_model(t: &Table) -> Option<[u8; Atom::LAST]>
     ensures { FirstIn t.now.atoms (Model (table_sheet t.now.code.now t.now.atoms t.now.rules)) result }
 {
     let mut opened = [0u8; Atom::LAST];
-    close_held(t, &mut opened).ok()?;
+    let Ok(_) = close_held(t, &mut opened) else {
+        return None;
+    };
     choose(t, opened)
 }

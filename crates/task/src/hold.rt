@@ -22,13 +22,7 @@ pub fn hold_atom(n: u32, atom: u32, inside: bool, m: &mut [u8]) -> Result<(), Cl
 }
 
 // The atoms of the pairs from one place to before another.
-fn hold_pairs(
-    row: &TableRow,
-    from: u32,
-    to: u32,
-    inside: bool,
-    m: &mut [u8],
-) -> Result<(), Clash>
+fn hold_pairs(row: &TableRow, from: u32, to: u32, inside: bool, m: &mut [u8]) -> Result<(), Clash>
     requires run { Seg row.now.code.now row.now.atoms from to }
     requires map { MapBytes row.now.atoms m.old }
     ensures { Takes row.now.atoms m.old (map (signed inside) (seg_atoms row.now.code.now from to)) m.new result }

@@ -1,14 +1,14 @@
 -- The work of the calls, put together: literals held and the map closed are the smallest closed map that holds both; and the models above
 -- the opened map are all that agree.
 use Prim.Native.Nat.{ℕ, ◌≤◌}
-use mathlib.Core.Path.{◌≡◌, refl, sym, ◌∙◌, subst}
+use mathlib.Core.Path.{sym, ◌∙◌}
 use mathlib.Core.List.{List}
 use Rattle.std.specs.Prelude.{Option, Some, None, Result, Ok, Err}
 use Rattle.rules.specs.Inner.Search.{ModelOver}
 use Rattle.rules.specs.Limits.{atoms_most}
 use Rattle.rules.specs.Rule.{Sheet}
-use Rattle.rules.specs.Stable.{Model, First}
-use Rattle.rules.specs.Map.{Map, Literal, Holding, Over, Whole, side, is, ◌⊑◌, blank}
+use Rattle.rules.specs.Stable.{Model}
+use Rattle.rules.specs.Map.{Map, Literal, Holding, Over, Whole, side, ◌⊑◌, blank}
 use Rattle.rules.specs.Forcing.{Closed, Least, computed}
 use Rattle.rules.specs.Inner.Bytes.{Room, MapBytes}
 use Rattle.rules.proofs.Fits.{Numbered}
@@ -26,16 +26,13 @@ use Rattle.task.specs.Inner.Hold.{Takes}
 use Rattle.task.specs.Inner.Closed.{ClosedFor, Finishes}
 
 -- held, and then closed
-module _ {c : List ℕ} {n count : ℕ} {m m₁ : List ℕ} {ps : List Literal} where
-  abbrev sheet : Sheet
-  sheet = table_sheet c n count
-
+module _ (c : List ℕ) (n count : ℕ) {m m₁ : List ℕ} {ps : List Literal} where
   pub held_closed :
       {v : Unit} → Takes n m ps m₁ (Ok v) → {m₂ : List ℕ} (r : Result ℕ Clash) → ClosesMap c n count m₁ m₂ r
       → Finishes (table_sheet c n count) (Over (side n m) ps) m m₂ r
   held_closed t {m₂} r k = record { kept = kept_trans n m m₁ m₂ t.kept k.kept; closed = by r k.answers }
     where
-      by : (x : Result ℕ Clash) → ClosedAs c n count m₁ m₂ x → ClosedFor sheet (Over (side n m) ps) m₂ x
+      by : (x : Result ℕ Clash) → ClosedAs c n count m₁ m₂ x → ClosedFor (table_sheet c n count) (Over (side n m) ps) m₂ x
       by (Ok u) (l, e) = (least_same (λ X. side n m₁ ⊑ X) (Over (side n m) ps) t.took.0 t.took.1 l, e)
       by (Err clash) none = contradiction_same (λ X. side n m₁ ⊑ X) (Over (side n m) ps) t.took.1 none
 

@@ -172,23 +172,23 @@ module _
     (middle : b ≡ negatives_at rc at)
     (end : d ≡ end_at rc at)
   where
-  lists_are : map (signed true) (seg_atoms rc a b) ++ map (signed false) (seg_atoms rc b d) ≡ computed (table_sheet c n count)
-  lists_are = simp (begin, middle, end, same, last)
+    lists_are : map (signed true) (seg_atoms rc a b) ++ map (signed false) (seg_atoms rc b d) ≡ computed (table_sheet c n count)
+    lists_are = simp (begin, middle, end, same, last)
 
-  pub lists_clash :
-      {m m₁ : List ℕ} (clash : Clash) → Takes rn m (map (signed true) (seg_atoms rc a b)) m₁ (Err clash)
-      → Takes n m (computed (table_sheet c n count)) m₁ (Err clash)
-  lists_clash {m} {m₁} clash t =
-      subst
-      (λ (x : ℕ). Takes x m (computed (table_sheet c n count)) m₁ (Err clash))
-      atoms
-      (subst (λ (ps : List Literal). Takes rn m ps m₁ (Err clash)) lists_are (takes_none (map (signed false) (seg_atoms rc b d)) clash refl t))
+    pub lists_clash :
+        {m m₁ : List ℕ} (clash : Clash) → Takes rn m (map (signed true) (seg_atoms rc a b)) m₁ (Err clash)
+        → Takes n m (computed (table_sheet c n count)) m₁ (Err clash)
+    lists_clash {m} {m₁} clash t =
+        subst
+        (λ (x : ℕ). Takes x m (computed (table_sheet c n count)) m₁ (Err clash))
+        atoms
+        (subst (λ (ps : List Literal). Takes rn m ps m₁ (Err clash)) lists_are (takes_none (map (signed false) (seg_atoms rc b d)) clash refl t))
 
-  pub lists_held :
-      {m m₁ : List ℕ} {v : Unit} {m₂ : List ℕ} (r : Result Unit Clash) → Takes rn m (map (signed true) (seg_atoms rc a b)) m₁ (Ok v)
-      → Takes rn m₁ (map (signed false) (seg_atoms rc b d)) m₂ r → Takes n m (computed (table_sheet c n count)) m₂ r
-  lists_held {m} {m₁} {v} {m₂} r t u =
-      subst
-      (λ (x : ℕ). Takes x m (computed (table_sheet c n count)) m₂ r)
-      atoms
-      (subst (λ (ps : List Literal). Takes rn m ps m₂ r) lists_are (takes_both (map (signed false) (seg_atoms rc b d)) v refl t r u))
+    pub lists_held :
+        {m m₁ : List ℕ} {v : Unit} {m₂ : List ℕ} (r : Result Unit Clash) → Takes rn m (map (signed true) (seg_atoms rc a b)) m₁ (Ok v)
+        → Takes rn m₁ (map (signed false) (seg_atoms rc b d)) m₂ r → Takes n m (computed (table_sheet c n count)) m₂ r
+    lists_held {m} {m₁} {v} {m₂} r t u =
+        subst
+        (λ (x : ℕ). Takes x m (computed (table_sheet c n count)) m₂ r)
+        atoms
+        (subst (λ (ps : List Literal). Takes rn m ps m₂ r) lists_are (takes_both (map (signed false) (seg_atoms rc b d)) v refl t r u))

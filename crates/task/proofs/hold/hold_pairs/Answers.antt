@@ -1,7 +1,7 @@
 -- `hold_pairs` meets its contract. The invariant: whatever holding the pairs that are left comes to, holding the run comes to.
 use mathlib.Core.Path.{refl}
 use Rattle.weigh.proofs.Steps.{clashed}
-use Rattle.task.proofs.hold.Laws.{left_next, left_clash, hold_begin, left_end}
+use Rattle.task.proofs.hold.Laws.{left_next, left_clash, left_end}
 use Rattle.task.proofs.hold.hold_pairs.Goals as goal
 
 pub returns-in_err-hold_atom : goal.returns-in_err-hold_atom
