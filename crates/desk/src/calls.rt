@@ -8,7 +8,7 @@ use gate::{is_contradiction, margin_gate, part_gate, pin_gate, room_gate, test_g
 use numbers::Refusal;
 use rules::{Atom, RuleNo};
 use sheet::read_sheet;
-use task::{close_held, first_model, press};
+use task::{close_held, close_pinned, first_model};
 
 // "Check a sheet: accepted with n and the rule count, or a refusal."
 pub fn check(s: &[u8]) -> Result<Counts, Refusal>
@@ -59,7 +59,7 @@ pub fn pin(
     }
     let mut work = [0u8; Atom::LAST];
     work[..n].copy_from_slice(&map[..n]);
-    let closed = on_table(s, sheet, 0, |t, _| press(&t, pinned, &mut work));
+    let closed = on_table(s, sheet, 0, |t, _| close_pinned(&t, pinned, &mut work));
     Ok(hand(n, closed, &work, map))
 }
 
@@ -68,11 +68,16 @@ pub fn solve(s: &[u8], map: &mut [u8]) -> Result<Solved, Refusal>
     ensures { Solves s.now map.old map.new result }
 {
     let sheet = room_gate(s, map)?;
-    let mut work = [0u8; Atom::LAST];
-    let found = on_table(s, sheet, 0, |t, _| first_model(&t, &mut work));
-    match hand(sheet.atoms, found, &work, map) {
-        Some(()) => Ok(Solved::Model),
-        None => Ok(Solved::NoModel),
+    let n = sheet.atoms;
+    match on_table(s, sheet, 0, |t, _| first_model(&t)) {
+        Some(model) => {
+            map[..n].copy_from_slice(&model[..n]);
+            Ok(Solved::Model)
+        }
+        None => {
+            map[..n].fill(3);
+            Ok(Solved::NoModel)
+        }
     }
 }
 

@@ -1,21 +1,17 @@
 -- A gate goes on exactly where the sheet is read and every test of the call lets it go on, and it is stopped by the first that does not:
 -- one test after another, by the definition of `tested`.
-use Prim.Native.Nat.{ℕ, ◌≤◌, ◌<◌}
+use Prim.Native.Nat.{ℕ}
 use mathlib.Core.Path.{◌≡◌, refl, sym, ap, subst, ◌∙◌}
 use mathlib.Core.Bool.{Bool, true, false}
 use mathlib.Core.List.{List, [], ◌∷◌}
-use native.Mathlib.Omega.{arith}
-use lib.Dec.{ltb}
-use borrow.Author.Tests.{lt-ltb, le-ltb}
 use Rattle.std.specs.Prelude.{Result, Ok, Err}
 use Rattle.rules.specs.Sum.{pick}
-use Rattle.numbers.specs.Answer.{refusal, read_then}
+use Rattle.numbers.specs.Answer.{read_then}
 use Rattle.numbers.specs.declared.Refusal.{Refusal}
-use Rattle.numbers.specs.declared.reason.Reason.TheVariants.{BadMapByte}
 use Rattle.numbers.proofs.Answer.{from_read, from_no, not_ok, same_ok}
 use Rattle.sheet.specs.Sheet.{sheet_read}
 use Rattle.sheet.specs.declared.Outline.{Outline}
-use Rattle.gate.specs.Gate.{Test, stop_if, no_fault, tested, gate, then_give, beside}
+use Rattle.gate.specs.Gate.{Test, stop_if, tested, gate, beside}
 
 -- a test that does not stop a call
 pub no_stop : (b : Bool) (why : Refusal) → b ≡ false → stop_if b why ≡ Ok tt
@@ -29,15 +25,6 @@ stops b why e = ap (λ (x : Bool). stop_if x why) e
 pub not_stopped : (b : Bool) (why : Refusal) → stop_if b why ≡ Ok tt → b ≡ false
 unfolding stop_if
 not_stopped b why e = (from_no b _ _ (not_ok why) e).0
-
--- a fault that was looked for
-pub faulty :
-    {n place fault : ℕ} {why : Refusal} → place ≡ fault → place < n → why ≡ refusal BadMapByte place → ◌≡◌ {A = Test} (Err why) (no_fault n fault)
-faulty {n} {place} {fault} e h w =
-    ap Err (w ∙ ap (λ (x : ℕ). refusal BadMapByte x) e) ∙ sym (stops (ltb fault n) _ (lt-ltb fault n (omega (arith, e, h))))
-
-pub faultless : {n place fault : ℕ} → place ≡ fault → n ≤ place → ◌≡◌ {A = Test} (Ok tt) (no_fault n fault)
-faultless {n} {place} {fault} e h = sym (no_stop (ltb fault n) _ (le-ltb fault n (omega (arith, e, h))))
 
 -- every test lets the call go on
 abbrev pub AllPass : List Test → Type 0
@@ -69,10 +56,6 @@ all_tested (t ∷ ts) o a = test_passes t ts o a.0 (all_tested ts o a.1)
 
 -- the sheet, and then the tests
 module _ (s : List ℕ) (tests : Outline → List Test) where
-  pub sheet_stops : {why : Refusal} → sheet_read s ≡ Err why → gate s tests ≡ Err why
-  unfolding gate read_then
-  sheet_stops e = ap (λ (x : Result Outline Refusal). read_then Err x (λ o. tested (tests o) o)) e
-
   pub sheet_passes : {o : Outline} {r : Result Outline Refusal} → sheet_read s ≡ Ok o → tested (tests o) o ≡ r → gate s tests ≡ r
   unfolding gate read_then
   sheet_passes e h = ap (λ (x : Result Outline Refusal). read_then Err x (λ o. tested (tests o) o)) e ∙ h
@@ -84,37 +67,22 @@ gate_goes s tests {o} e =
     let (same, pass) = all_pass (tests o') o' o h in
     (read ∙ ap Ok same, subst (λ (y : Outline). AllPass (tests y)) same pass)
 
--- a value that stands beside the sheet, or that a test lets through
-module _ {B : Type 0} (x : B) {g : Result Outline Refusal} where
-  pub beside_stops : {why : Refusal} → g ≡ Err why → beside x g ≡ Err why
+-- a value that stands beside the sheet is the one that was put there
+module _ {B : Type 0} (x : B) (g : Result Outline Refusal) where
+  pub beside_goes : {y : B} {o : Outline} → ◌≡◌ {A = Result (Outline × B) Refusal} (Ok (o, y)) (beside x g) → (g ≡ Ok o) × (x ≡ y)
+  unfolding beside
+  beside_goes {y} {o} e =
+      let (o', goes, h) = from_read Err (λ z. Ok (z, x)) g (λ why. not_ok why) (sym e) in
+      let same = same_ok h in
+      (goes ∙ ap (λ (z : Outline × B). Ok z.0) same, ap (λ (z : Outline × B). z.1) same)
+
+  pub beside_stops : {why : Refusal} → ◌≡◌ {A = Result (Outline × B) Refusal} (Err why) (beside x g) → g ≡ Err why
   unfolding beside read_then
-  beside_stops e = ap (λ (y : Result Outline Refusal). read_then Err y (λ o. Ok (o, x))) e
-
-  pub beside_goes : {o : Outline} → g ≡ Ok o → beside x g ≡ Ok (o, x)
-  unfolding beside read_then
-  beside_goes e = ap (λ (y : Result Outline Refusal). read_then Err y (λ o. Ok (o, x))) e
-
-module _ {A B : Type 0} (x : B) {t : Result A Refusal} where
-  pub gives : {v : A} → t ≡ Ok v → then_give x t ≡ Ok x
-  unfolding then_give read_then
-  gives e = ap (λ (y : Result A Refusal). read_then Err y (λ _. Ok x)) e
-
-  pub gives_not : {why : Refusal} → t ≡ Err why → then_give x t ≡ Err why
-  unfolding then_give read_then
-  gives_not e = ap (λ (y : Result A Refusal). read_then Err y (λ _. Ok x)) e
-
-  -- the way back: what was given, and that the test let it through
-  pub given : {y : B} → then_give x t ≡ Ok y → (x ≡ y) × (v : A) × (t ≡ Ok v)
-  unfolding then_give
-  given {y} e = let (v, h, k) = from_read Err (λ _. Ok x) t (λ why. not_ok why) e in (same_ok k, v, h)
-
-  pub given_not : {why : Refusal} → then_give x t ≡ Err why → t ≡ Err why
-  unfolding then_give read_then
-  given_not {why} e = by t e
+  beside_stops {why} e = by g e
     where
-      same_err : {w : Refusal} → ◌≡◌ {A = Result B Refusal} (Err w) (Err why) → w ≡ why
-      same_err h = cc
-
-      by : (y : Result A Refusal) → ◌≡◌ {A = Result B Refusal} (read_then Err y (λ _. Ok x)) (Err why) → y ≡ Err why
-      by (Ok v) h = absurd (not_ok why (sym h))
-      by (Err w) h = ap Err (same_err h)
+      by : (z : Result Outline Refusal) → ◌≡◌ {A = Result (Outline × B) Refusal} (Err why) (read_then Err z (λ o. Ok (o, x))) → z ≡ Err why
+      by (Ok o) h = absurd (not_ok why h)
+      by (Err w) h = ap Err (same_err (sym h))
+        where
+          same_err : ◌≡◌ {A = Result (Outline × B) Refusal} (Err w) (Err why) → w ≡ why
+          same_err k = cc

@@ -13,7 +13,7 @@ use Rattle.search.specs.Inner.Search.{FirstIn}
 use Rattle.task.specs.Inner.Closed.{ClosedFor}
 
 module _ {sh sh' : Sheet} (k : Shuffled sh sh') where
-  closed_for :
+  pub closed_for :
       (m' : List ℕ) (Q Q' : Map → Type 0) → ((X : Map) → Q X → Q' X) → ((X : Map) → Q' X → Q X) → (r : Result ℕ Clash)
       → ClosedFor sh Q m' r → ClosedFor sh' Q' m' r
   closed_for m' Q Q' onto back (Ok u) (l, e) = (
