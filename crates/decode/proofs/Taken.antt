@@ -38,7 +38,7 @@ use Rattle.sheet.specs.declared.SheetRule.{SheetRule}
 use Rattle.sheet.proofs.body.Ran.{body_ran}
 use Rattle.sheet.proofs.body.Dead.{from_dead}
 use Rattle.sheet.proofs.rule.Ran.{cases}
-use Rattle.decode.specs.Inner.Taken.{numbers_past, list_taken, list_past, literals_taken, literals_past, Body, body_of, body_taken, heads_taken, heads_past, has_bound, bound_taken, need_taken, rest_taken, rule_of, kind_taken, rule_bound, rule_taken, rule_past}
+use Rattle.decode.specs.Inner.Taken.{numbers_past, list_taken, list_past, literals_taken, literals_past, Body, body_of, body_taken, heads_taken, heads_past, bound_taken, need_taken, rest_taken, rule_of, kind_taken, rule_bound, rule_taken, rule_past}
 
 -- a kind is that of its number
 pub kind_written : (k : Kind) → kind_of (kind_number k) ≡ k

@@ -195,7 +195,8 @@ pub(crate) fn write_rules(s: &[u8], sheet: Outline, wanted: usize, code: &mut [u
         let rule = write_rule(s, rows.next, code, rows.count, rows.pair);
         end_rows(code, rows.count + 1, rule.pair);
         let found = kept.keep(code, rows.count as u32, rule.mark) as usize;
-        if i == wanted {
+        let is_wanted = i == wanted;
+        if is_wanted {
             rows.row = found;
         }
         if found == rows.count {

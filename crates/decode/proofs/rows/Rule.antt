@@ -7,7 +7,6 @@ use mathlib.Core.List.{List, [], ◌∷◌}
 use native.Mathlib.Omega.{arith}
 use lib.Dec.{eqb}
 use lib.ListN.{length, length-map}
-use borrow.Author.Tests.{eq-eqb, ne_eqb}
 use Rattle.rules.specs.Sum.{pick}
 use Rattle.rules.specs.Limits.{number_most}
 use Rattle.rules.specs.Rule.{Rule, one, ones, kind_number, kind_of}
@@ -25,7 +24,6 @@ use Rattle.decode.specs.Inner.Pairs.{with_pairs, PairsFit, PairsCopied, ListCopi
 use Rattle.decode.specs.Inner.Rows.{positives_from, negatives_from, end_from, with_body, with_row, with_rule, BodyPut, RowAsks, RestAsks, RestPut, RuleAsks, RulePut}
 use Rattle.decode.specs.declared.pairs.Reached.{Reached}
 use Rattle.decode.specs.declared.rows.BodyEnds.{BodyEnds}
-use Rattle.decode.proofs.Taken.{number_fits}
 use Rattle.decode.proofs.pairs.Laws.{pairs_long}
 use Rattle.decode.proofs.pairs.Copy.{asks_as, copied_as, copied_long}
 

@@ -2,19 +2,15 @@
 -- one of the rows that are kept; and what is left of the rules, with the compute lists, has room.
 use Prim.Native.Nat.{ℕ, suc, ◌+◌, ◌-◌, ◌*◌, ◌≤◌, ◌<◌}
 use mathlib.Core.Path.{◌≡◌, refl, sym, ◌∙◌, ap, ap₂, subst}
-use mathlib.Core.Logic.{◌⊎◌, inl, inr, ⊎_elim}
-use mathlib.Core.Bool.{Bool, true, false}
+use mathlib.Core.Logic.{◌⊎◌, inl, inr}
 use mathlib.Core.List.{List, [], ◌∷◌, ◌++◌, Memᴰ}
 use Rattle.std.specs.Prelude.{Ok}
 use native.Mathlib.Omega.{arith}
 use native.Mathlib.Nat.{sub-zero, eq-or-lt_of_le}
 use native.Mathlib.Numerals.{add-one}
-use lib.Dec.{eqb}
-use lib.ListN.{length, get_or, drop, replicate}
+use lib.ListN.{length, get_or, drop}
 use lib.Seq.{drop-cons}
-use borrow.Author.Tests.{eq-eqb, ne_eqb}
 use Rattle.rules.specs.Limits.{rules_most}
-use Rattle.rules.specs.Sum.{pick}
 use Rattle.rules.specs.Rule.{Rule, no_rule}
 use Rattle.rules.proofs.Members.{index_mem}
 use Rattle.numbers.specs.Answer.{span}

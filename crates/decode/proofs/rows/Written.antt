@@ -1,13 +1,11 @@
 -- The row of a rule that was written stands for that rule: its words are the row's and its pairs the rule's lists.
 use Prim.Native.Nat.{ℕ, ◌+◌, ◌*◌, ◌≤◌, ◌<◌}
-use mathlib.Core.Path.{◌≡◌, refl, sym, ◌∙◌, ap}
+use mathlib.Core.Path.{◌≡◌, sym, ◌∙◌, ap}
 use mathlib.Core.List.{List, [], ◌∷◌}
 use native.Mathlib.Omega.{arith}
 use native.Mathlib.Nat.{add-zero}
 use lib.ListN.{length, get_or, length-map}
 use Rattle.rules.specs.Rule.{Rule, kind_number, kind_of, ones, atoms_of}
-use Rattle.rules.specs.declared.kind.Kind.{Kind}
-use Rattle.rules.specs.declared.kind.Kind.TheVariants.{Basic as basic, Constraint as constraint, Choice as choice, Weight as weight}
 use Rattle.sheet.specs.Shown.Encode.{rules_size}
 use Rattle.sheet.proofs.rule.Apart.{ones_atoms}
 use Rattle.table.specs.Inner.Words.{row_width, pair_width, word_at, seg, seg_atoms}

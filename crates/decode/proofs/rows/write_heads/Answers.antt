@@ -1,5 +1,5 @@
 -- `write_heads` meets its contract: a choice has a list of heads, every other kind one, which is a run of one atom.
-use Rattle.std.proofs.Common.{sym, ap, subst}
+use Rattle.std.proofs.Common.{sym, ap}
 use Rattle.rules.specs.Rule.{ones}
 use Rattle.decode.proofs.pairs.Copy.{asks_as, list_as}
 use Rattle.decode.proofs.rows.Rule.{list_heads, list_past_law, one_head, one_past}

@@ -3,12 +3,11 @@
 use mathlib.Core.Path.{◌∙◌, sym, ap, refl}
 use mathlib.Core.Logic.{inl, inr}
 use native.Mathlib.Omega.{arith}
-use borrow.Author.Rules.{rules}
 use Rattle.rules.specs.Limits.{rules_most}
 use Rattle.sheet.proofs.sheet.Ran.{sheet_ran}
 use Rattle.decode.proofs.rows.Writing.{writing_one, this_one, writing_begin, next_asks, few_rows, end_asks, keep_asks, writing_new, writing_repeat, writing_done}
 use Rattle.decode.specs.declared.rows.Rows.{Rows}
-use Rattle.decode.proofs.rows.write_rules.Goals.{then-i-wanted, else-i-wanted, then-found-rows, else-found-rows}
+use Rattle.decode.proofs.rows.write_rules.Goals.{then-is_wanted, else-is_wanted, then-found-rows, else-found-rows}
 use Rattle.decode.proofs.rows.write_rules.Goals as goal
 
 pub first_pair-requires : goal.first_pair-requires
@@ -55,37 +54,37 @@ loop-i-preserved c =
     let this = this_one ready c.loop-i.invariant in
     let wrote = c.write_rule-rule.ensures in
     let keeps = c.keep-found.ensures in
-    elim c.if-i-wanted.branch [
-    | then-i-wanted v ↦
-      elim c.if-found-rows.branch [
-      | then-found-rows w ↦
-        rw (w.rows-is, v.rows-is)
-        (writing_one ready
-        (writing_new ready this c.loop-i-test.true _ wrote c.end_rows.ensures keeps _
-        (w.if-found-rows.true ∙ ap (λ (r : Rows). r.count) v.rows-is)
-        (inl (v.if-i-wanted.true, refl))))
-      | else-found-rows w ↦
-        rw (w.rows-is, v.rows-is)
-        (writing_one ready
-        (writing_repeat ready this c.loop-i-test.true _ wrote c.end_rows.ensures keeps _
-        (λ e. w.if-found-rows.false (e ∙ sym (ap (λ (r : Rows). r.count) v.rows-is)))
-        (inl (v.if-i-wanted.true, refl))))
-      ]
-    | else-i-wanted v ↦
-      elim c.if-found-rows.branch [
-      | then-found-rows w ↦
-        rw (w.rows-is, v.rows-is)
-        (writing_one ready
-        (writing_new ready this c.loop-i-test.true _ wrote c.end_rows.ensures keeps _
-        (w.if-found-rows.true ∙ ap (λ (r : Rows). r.count) v.rows-is)
-        (inr (v.if-i-wanted.false, refl))))
-      | else-found-rows w ↦
-        rw (w.rows-is, v.rows-is)
-        (writing_one ready
-        (writing_repeat ready this c.loop-i-test.true _ wrote c.end_rows.ensures keeps _
-        (λ e. w.if-found-rows.false (e ∙ sym (ap (λ (r : Rows). r.count) v.rows-is)))
-        (inr (v.if-i-wanted.false, refl))))
-      ]
+    elim c.if-is_wanted.branch [
+      | then-is_wanted v ↦
+          elim c.if-found-rows.branch [
+            | then-found-rows w ↦
+                rw (w.rows-is, v.rows-is)
+                (writing_one ready
+                (writing_new ready this c.loop-i-test.true _ wrote c.end_rows.ensures keeps _
+                (w.if-found-rows.true ∙ ap (λ (r : Rows). r.count) v.rows-is)
+                (inl (v.if-is_wanted.true, refl))))
+            | else-found-rows w ↦
+                rw (w.rows-is, v.rows-is)
+                (writing_one ready
+                (writing_repeat ready this c.loop-i-test.true _ wrote c.end_rows.ensures keeps _
+                (λ e. w.if-found-rows.false (e ∙ sym (ap (λ (r : Rows). r.count) v.rows-is)))
+                (inl (v.if-is_wanted.true, refl))))
+          ]
+      | else-is_wanted v ↦
+          elim c.if-found-rows.branch [
+            | then-found-rows w ↦
+                rw (w.rows-is, v.rows-is)
+                (writing_one ready
+                (writing_new ready this c.loop-i-test.true _ wrote c.end_rows.ensures keeps _
+                (w.if-found-rows.true ∙ ap (λ (r : Rows). r.count) v.rows-is)
+                (inr (v.if-is_wanted.false, refl))))
+            | else-found-rows w ↦
+                rw (w.rows-is, v.rows-is)
+                (writing_one ready
+                (writing_repeat ready this c.loop-i-test.true _ wrote c.end_rows.ensures keeps _
+                (λ e. w.if-found-rows.false (e ∙ sym (ap (λ (r : Rows). r.count) v.rows-is)))
+                (inr (v.if-is_wanted.false, refl))))
+          ]
     ]
 
 pub shape_of-code : goal.shape_of-code
