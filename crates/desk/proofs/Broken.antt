@@ -9,6 +9,7 @@ use mathlib.Core.List.{List, [], ◌∷◌, Memᴰ}
 use native.Mathlib.Omega.{arith}
 use lib.ListN.{length, get_or, set}
 use lib.Dec.{T, eqb, ltb, ltb→lt}
+use Rattle.std.specs.Prelude.{Some, Result, Ok, Err}
 use Rattle.rules.specs.Limits.{atoms_most, rules_most, bytes_most, weight_most}
 use Rattle.rules.specs.Number.{checked_atom}
 use Rattle.rules.specs.Rule.{Sheet, Within, basic_rule, choice_rule}
@@ -29,23 +30,25 @@ use Rattle.rules.proofs.Opening.{opening, taking}
 use Rattle.rules.proofs.Searching.{solving, searching, lowest}
 use Rattle.rules.proofs.Cases.{case_proved}
 use Rattle.numbers.specs.Shown.Encode.{IsBytes}
-use Rattle.numbers.specs.Answer.{refusal, read_then, atom_then}
+use Rattle.numbers.specs.Answer.{refusal, read_then}
 use Rattle.numbers.specs.Number.{groups_from, number_at, taken_from, taken_at, within_at}
 use Rattle.numbers.specs.Lists.{atom_at, in_turn, list_at, numbers_from}
 use Rattle.numbers.specs.declared.Refusal.{Refusal}
+use Rattle.numbers.specs.declared.reason.Reason.TheVariants.{EndsEarly}
+use Rattle.rules.specs.Rule.{checked_kind}
 use Rattle.sheet.specs.Body.{weight_at, weights_at, weighed_at, body_at, unless_above, unless_dead}
-use Rattle.sheet.specs.Rule.{head_then, basic_at, bounded_at, choice_at, rule_at, rule_then, rule_step, rules_at}
-use Rattle.sheet.specs.Sheet.{edition_at, tail_at, rest_at, whole_at, sheet_read, sheet_then}
+use Rattle.sheet.specs.Rule.{head_then, basic_at, bounded_at, choice_at, kind_at, rule_at, rule_step, rules_at}
+use Rattle.sheet.specs.Sheet.{edition_at, tail_at, rest_at, whole_at, sheet_read}
 use Rattle.sheet.specs.RuleMeaning.{paired, rule_meant}
 use Rattle.sheet.specs.Meaning.{rules_from, sheet_meant, sheet_of, accepted}
 use Rattle.sheet.specs.declared.Outline.{Outline}
 use Rattle.sheet.proofs.sheet.Ran.{sheet_ran}
 use Rattle.sheet.proofs.Accepted.{outlined}
 use Rattle.gate.specs.Scan.{is_contradiction}
-use Rattle.gate.specs.Gate.{open_gate, pin_gate, solve_gate, is_pin}
-use Rattle.gate.proofs.Calls.{Lent, opens_through, solves_through, pins_through}
+use Rattle.gate.specs.Gate.{room_gate, pin_gate, is_pin}
+use Rattle.gate.proofs.Calls.{Lent, room_through, pins_through}
 use Rattle.gate.proofs.scan.Maps.{map_none, map_stands}
-use Rattle.desk.specs.Promise.{Upon, Checks, Opens, Pins, Solves, Ends, PinAsks, PinEnds, SolveEnds}
+use Rattle.desk.specs.Promise.{Checked, Opened, Searched, closed_with, contradicted, Upon, Checks, Opens, Pins, Solves, Ends, PinAsks, PinEnds, SolveEnds}
 use Rattle.desk.specs.Shown.Wrong.{Version, Call, check_call, open_call, pin_call, solve_call, Keeps, Leaves, Miscounts, Wrong, refuses_all, always_none, open_forces_nothing, pin_forces_nothing, pin_leaves_map, open_guesses, open_miscounts, pin_miscounts, filled, put_at, put_all, listed, lazy, eager}
 use Rattle.desk.specs.declared.Solved.TheVariants.{Model as ModelFound, NoModel as NoneFound}
 use Rattle.desk.proofs.calls.Laws.{upon_go, checks_accepted}
@@ -61,7 +64,7 @@ written =
     0x01 ∷ 0x03 ∷ 0x03 ∷ 0x01 ∷ 0x01 ∷ 0x00 ∷ 0x00 ∷ 0x03 ∷ 0x01 ∷ 0x02 ∷ 0x00 ∷ 0x00 ∷ 0x01 ∷ 0x03 ∷ 0x01 ∷ 0x02 ∷ 0x00 ∷ 0x00 ∷ 0x00 ∷ []
 
 reads : sheet_of written ≡ accepted small
-unfolding sheet_of sheet_meant rules_from rule_meant paired sheet_then sheet_read whole_at edition_at rest_at tail_at rules_at rule_step rule_then rule_at choice_at bounded_at basic_at head_then unless_dead unless_above body_at weighed_at weights_at weight_at list_at in_turn atom_at within_at number_at groups_from numbers_from taken_from taken_at pick read_then atom_then checked_atom atoms_most rules_most bytes_most weight_most
+unfolding sheet_of sheet_meant rules_from rule_meant paired sheet_read whole_at edition_at rest_at tail_at rules_at rule_step read_then rule_at choice_at bounded_at basic_at head_then unless_dead unless_above body_at weighed_at weights_at weight_at list_at in_turn atom_at within_at number_at groups_from numbers_from taken_from taken_at pick checked_atom checked_kind kind_at atoms_most rules_most bytes_most weight_most
 reads = refl
 
 abbrev blank : List ℕ
@@ -109,7 +112,6 @@ solve_on : room_gate written blank ≡ Ok o
 solve_on = room_through (lent blank refl)
 
 pin_on : pin_gate written after_open 2 1 ≡ Ok o
-unfolding pick
 pin_on =
     pins_through
     (lent after_open refl)
@@ -117,16 +119,13 @@ pin_on =
     1
     (ap (λ (n : ℕ). is_pin n 2 1) three)
     (map_none o.atoms after_open small_bytes)
-    ∙ ap
-    (λ (b : Bool). Go o (pick b Stay (Pin (record { number = 2 }) true)))
-    (map_stands o.atoms after_open small_bytes)
 
 -- and what it promises
-check_right : Checks written (AcceptedSheet 3 3)
+check_right : Checks written ((Ok (record { atoms = 3; rules = 3 })))
 check_right =
     subst
     (Checks written)
-    (ap₂ AcceptedSheet three (sym (sheet_ran written o outline.1).count ∙ ap (λ (x : Sheet). length x.rules) outline.2))
+    (ap₂ (λ (a r : ℕ). Ok (record { atoms = a; rules = r })) three (sym (sheet_ran written o outline.1).count ∙ ap (λ (x : Sheet). length x.rules) outline.2))
     (checks_accepted written o outline.1)
 
 open_right : Opens written blank after_open (Ok (Some 2))
@@ -175,13 +174,13 @@ after_pin_whole (suc zero) h = record { low = omega arith; high = omega arith }
 after_pin_whole (suc (suc zero)) h = record { low = omega arith; high = omega arith }
 after_pin_whole (suc (suc (suc i))) h = absurd (omega (arith, h))
 
-solve_right : Solves written blank after_pin ModelFound
+solve_right : Solves written blank after_pin (Ok ModelFound)
 solve_right =
     record {
       promise =
           upon_go written _ _ solve_on
           (subst
-          (λ (x : Sheet). SolveEnds x blank after_pin ModelFound)
+          (λ (x : Sheet). SolveEnds x blank after_pin (Ok ModelFound))
           (sym outline.2)
           (record { first = open_case.model; whole = after_pin_whole; written = record { long = refl; past = refl } }));
     }
@@ -232,7 +231,7 @@ unfolding side undecided tally sheet_meant
 wrong_breaks v _ (refuses_all w) k =
     differ (sym (w written written_bytes).1 ∙ checks_tight written _ _ (k written written_bytes) check_right)
   where
-    differ : {why : Refusal} → Err why ≡ AcceptedSheet 3 3 → ⊥
+    differ : {why : Refusal} → ◌≡◌ {A = Checked} (Err why) (Ok (record { atoms = 3; rules = 3 })) → ⊥
     differ e = let clash : ◌≡◌ {A = ℕ} 0 1 = cc in omega arith
 wrong_breaks v _ (always_none w) k =
     w written blank written_bytes blank_bytes
@@ -242,12 +241,12 @@ wrong_breaks v _ (open_forces_nothing w) k =
     (subst
     (λ (x : Sheet). Memᴰ (signed true 1) (computed x))
     outline.2
-    (w written blank o written_bytes blank_bytes (Open, open_on) 1 true (ap₂ (λ (x : ℕ) (m : List ℕ). side x m 1) three (must_open v k))))
+    (w written blank o written_bytes blank_bytes open_on 1 true (ap₂ (λ (x : ℕ) (m : List ℕ). side x m 1) three (must_open v k))))
 wrong_breaks v _ (pin_forces_nothing w) k =
     ⊎_elim
     (λ (e : side o.atoms after_open 3 ≡ 1). let z : side 3 after_open 3 ≡ 1 = ap (λ (x : ℕ). side x after_open 3) (sym three) ∙ e in omega (arith, z))
     (λ (e : signed true 3 ≡ signed true 2). let atoms : ◌≡◌ {A = ℕ} 3 2 = ap (λ (p : Literal). p.atom) e in omega arith)
-    (w written after_open 2 1 o written_bytes open_bytes (_, pin_on) 3 true (ap₂ (λ (x : ℕ) (m : List ℕ). side x m 3) three (must_pin v k)))
+    (w written after_open 2 1 o written_bytes open_bytes pin_on 3 true (ap₂ (λ (x : ℕ) (m : List ℕ). side x m 3) three (must_pin v k)))
 wrong_breaks v _ (pin_leaves_map w) k =
     let
     byte : get_or after_open 1 0 ≡ get_or after_pin 1 0
@@ -257,10 +256,10 @@ wrong_breaks v _ (pin_leaves_map w) k =
 wrong_breaks v _ (open_guesses w) k =
     let
     none : undecided 3 after_open ≡ 0
-    = sym (ap₂ undecided three (must_open v k)) ∙ w written blank o written_bytes blank_bytes (Open, open_on)
+    = sym (ap₂ undecided three (must_open v k)) ∙ w written blank o written_bytes blank_bytes open_on
     in
     omega (arith, none)
-wrong_breaks v _ (open_miscounts s m y is is' (t, g) w) k =
+wrong_breaks v _ (open_miscounts s m y is is' g w) k =
     ends_count
     (sheet_meant s y)
     (Holding (computed (sheet_meant s y)))
@@ -271,7 +270,7 @@ wrong_breaks v _ (open_miscounts s m y is is' (t, g) w) k =
     g
     (k s m is is').promise)
     w
-wrong_breaks v _ (pin_miscounts s m a d y is is' wa wd (t, g) w) k =
+wrong_breaks v _ (pin_miscounts s m a d y is is' wa wd g w) k =
     ended
     (is_contradiction y.atoms m)
     (subst
@@ -282,7 +281,7 @@ wrong_breaks v _ (pin_miscounts s m a d y is is' wa wd (t, g) w) k =
     ended : (b : Bool) → PinEnds b (sheet_meant s y) m a d (v.pin s m a d).map (v.pin s m a d).answer → ⊥
     ended true e = differ (sym e.0 ∙ w.says)
       where
-        differ : contradicted ≡ closed_with w.count → ⊥
+        differ : ◌≡◌ {A = Opened} contradicted (closed_with w.count) → ⊥
         differ q = let clash : ◌≡◌ {A = ℕ} 0 1 = cc in omega arith
     ended false e = ends_count (sheet_meant s y) (PinAsks (sheet_meant s y) m a d) m (v.pin s m a d) e w
 
@@ -346,19 +345,19 @@ all_decided (suc n) [] = refl
 all_decided (suc n) (x ∷ m) = omega (arith, all_decided n m)
 
 pub lazy_check : Wrong lazy check_call
-lazy_check = refuses_all (λ s is. (refusal 1 0, refl))
+lazy_check = refuses_all (λ s is. (refusal EndsEarly 0, refl))
 
 pub lazy_solve : Wrong lazy solve_call
 lazy_solve = always_none (λ s m is is'. differ)
   where
-    differ : NoneFound ≡ ModelFound → ⊥
+    differ : ◌≡◌ {A = Searched} (Ok NoneFound) (Ok ModelFound) → ⊥
     differ e = let clash : ◌≡◌ {A = ℕ} 0 1 = cc in omega arith
 
 pub lazy_open : Wrong lazy open_call
 lazy_open =
     open_forces_nothing
     (λ s m y is is' g a b e.
-    subst (λ (x : (Result Outline Refusal)). Memᴰ (signed b a) (listed s x)) g.1 (put_all_decides y.atoms m (listed s (room_gate s m)) a b e))
+    subst (λ (x : (Result Outline Refusal)). Memᴰ (signed b a) (listed s x)) g (put_all_decides y.atoms m (listed s (room_gate s m)) a b e))
 
 pub lazy_pin : Wrong lazy pin_call
 lazy_pin = pin_forces_nothing (λ s m x d y is is' g a b e. put_decides y.atoms m x (eqb d 1) a b e)
@@ -378,7 +377,7 @@ lazy_open_count =
     o
     written_bytes
     blank_bytes
-    (Open, open_on)
+    open_on
     (record {
       count = 9;
       says = refl;
@@ -401,5 +400,5 @@ lazy_pin_count =
     open_bytes
     (omega arith)
     (omega arith)
-    (_, pin_on)
+    pin_on
     (record { count = 9; says = refl; not = λ e. omega (arith, e ∙ ap (λ (x : ℕ). undecided x (put_at after_open 2 true)) three) })

@@ -8,6 +8,7 @@ use mathlib.Core.List.{List, [], ◌∷◌, ◌++◌, append_assoc, append-nil}
 use native.Mathlib.Omega.{arith}
 use lib.ListN.{length, get_or, replicate}
 use lib.Dec.{eqb}
+use Rattle.std.specs.Prelude.{Some, None, Result, Ok, Err}
 use Rattle.rules.specs.Sum.{pick}
 use Rattle.rules.specs.Rule.{Sheet, SameSet, Shuffled}
 use Rattle.rules.specs.Stable.{Set, Model}
@@ -22,15 +23,16 @@ use Rattle.rules.proofs.Tests.{T_and_left, true_T}
 use Rattle.rules.proofs.Inside.{inside_within}
 use Rattle.numbers.specs.Answer.{refusal}
 use Rattle.numbers.specs.declared.Refusal.{Refusal}
+use Rattle.numbers.specs.declared.reason.Reason.TheVariants.{BadPin}
 use Rattle.sheet.specs.Sheet.{sheet_read}
 use Rattle.sheet.specs.Meaning.{sheet_meant}
 use Rattle.sheet.specs.declared.Outline.{Outline}
 use Rattle.sheet.proofs.Accepted.{outlined, numbered}
 use Rattle.gate.specs.Scan.{is_contradiction, map_fault}
 use Rattle.gate.specs.Gate.{is_pin, pin_gate}
-use Rattle.gate.proofs.Calls.{pin_through, opens_through, pins_through, pins_barred}
+use Rattle.gate.proofs.Calls.{pin_through, room_through, pins_through, pins_barred}
 use Rattle.gate.proofs.scan.Maps.{map_none, map_stands, threes_map, threes_contradict}
-use Rattle.desk.specs.Promise.{Upon, Opens, Pins, Ends, PinAsks, PinEnds, threes}
+use Rattle.desk.specs.Promise.{Opened, closed_with, contradicted, Upon, Opens, Pins, Ends, PinAsks, PinEnds, threes}
 use Rattle.desk.specs.Run.{Pin, accepted_of, latest, PinCalls, done, next, Run}
 use Rattle.desk.proofs.hand.Laws.{threes_are}
 use Rattle.desk.proofs.Tight.{ends_alike, ends_written, ends_tight}
@@ -93,7 +95,7 @@ module _ (s : List ℕ) (o : Outline) (is : sheet_read s ≡ Ok o) (l : List ℕ
         (m' : List ℕ) (r r₁ : Opened) → State ps m r → passes ≡ false → Pins s m a v m' r₁ → State ps m' (latest r r₁)
     refused_pin m' r r₁ st e q =
         let
-        stop : (r₁ ≡ Err (refusal 11 0)) × (m' ≡ m)
+        stop : (r₁ ≡ Err (refusal BadPin 0)) × (m' ≡ m)
         = through
         s
         (λ why. (r₁ ≡ Err why) × (m' ≡ m))
@@ -327,11 +329,11 @@ loses_no_model {s = s} {sh = sh} {ps = ps} {m = m} {r = r} run S md h = step r (
 
 -- "A pin already held on a closed map changes nothing."
 pub held_pin :
-    (s m m' : List ℕ) (a v : ℕ) (r : Opened) (o : Outline) (t : Task) → pin_gate s m a v ≡ Ok o
+    (s m m' : List ℕ) (a v : ℕ) (r : Opened) (o : Outline) → pin_gate s m a v ≡ Ok o
     → Closed (sheet_meant s o).rules o.atoms (side o.atoms m) → Holding (signed (eqb v 1) a ∷ []) (side o.atoms m)
     → Pins s m a v m' r → (r ≡ closed_with (undecided o.atoms m)) × (m' ≡ m)
 unfolding sheet_meant
-held_pin s m m' a v r o t g c h q =
+held_pin s m m' a v r o g c h q =
     ends_tight
     sh
     (PinAsks sh m a v)

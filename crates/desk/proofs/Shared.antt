@@ -3,18 +3,19 @@ use Prim.Native.Nat.{ℕ}
 use mathlib.Core.Path.{◌≡◌, refl, subst}
 use mathlib.Core.List.{List}
 use lib.Dec.{T}
+use Rattle.std.specs.Prelude.{Some, None, Result, Ok, Err}
 use Rattle.rules.specs.Sum.{has}
 use Rattle.rules.specs.Rule.{Sheet}
 use Rattle.rules.specs.Map.{Holding}
 use Rattle.rules.specs.Forcing.{Closed, computed}
 use Rattle.rules.specs.Inner.Bytes.{Room}
 use Rattle.rules.proofs.Models.{shared_none, shared_clash}
+use Rattle.numbers.specs.declared.Refusal.{Refusal}
 use Rattle.sheet.specs.Sheet.{sheet_read}
 use Rattle.sheet.specs.Meaning.{sheet_meant}
 use Rattle.sheet.specs.declared.Outline.{Outline}
-use Rattle.gate.proofs.Calls.{opens_through, solves_through}
-use Rattle.desk.specs.Promise.{Upon, Ends, Opens, SolveEnds, Solves, threes}
-use Rattle.desk.specs.declared.Solved.{Solved}
+use Rattle.gate.proofs.Calls.{room_through}
+use Rattle.desk.specs.Promise.{Opened, Searched, contradicted, Upon, Ends, Opens, SolveEnds, Solves, threes}
 use Rattle.desk.specs.declared.Solved.TheVariants.{Model as ModelFound, NoModel as NoneFound}
 
 module _
@@ -24,19 +25,19 @@ module _
     abbrev sh : Sheet
     sh = sheet_meant s o
 
-    pub shared_solve : {m' : List ℕ} {r : Solved} → Solves s m m' r → (r ≡ NoneFound) × (m' ≡ threes o.atoms m)
+    pub shared_solve : {m' : List ℕ} {r : Searched} → Solves s m m' r → (r ≡ Ok NoneFound) × (m' ≡ threes o.atoms m)
     unfolding sheet_meant
     shared_solve {m'} {r} p =
         by
         r
         (subst
-        (λ (g : (Result Outline Refusal)). Upon s g (λ why. (r ≡ Err why) × (m' ≡ m)) (λ x. SolveEnds x m m' r))
+        (λ (g : Result Outline Refusal). Upon s g (λ why. (r ≡ Err why) × (m' ≡ m)) (λ x. SolveEnds x m m' r))
         (room_through (record { accepted = accepted; room = room }))
         p.promise)
       where
-        by : (q : Solved) → SolveEnds sh m m' q → (q ≡ NoneFound) × (m' ≡ threes o.atoms m)
-        by ModelFound e = absurd (shared_none sh a ins outs _ e.first.is)
-        by NoneFound e = (refl, e.1)
+        by : (q : Searched) → SolveEnds sh m m' q → (q ≡ Ok NoneFound) × (m' ≡ threes o.atoms m)
+        by (Ok ModelFound) e = absurd (shared_none sh a ins outs _ e.first.is)
+        by (Ok NoneFound) e = (refl, e.1)
         by (Err why) e = absurd e
 
     pub shared_open : {m' : List ℕ} {r : Opened} → Opens s m m' r → (r ≡ contradicted) × (m' ≡ threes o.atoms m)
@@ -45,7 +46,7 @@ module _
         by
         r
         (subst
-        (λ (g : (Result Outline Refusal)). Upon s g (λ why. (r ≡ Err why) × (m' ≡ m)) (λ x. Ends x (Holding (computed x)) m m' r))
+        (λ (g : Result Outline Refusal). Upon s g (λ why. (r ≡ Err why) × (m' ≡ m)) (λ x. Ends x (Holding (computed x)) m m' r))
         (room_through (record { accepted = accepted; room = room }))
         p.promise)
       where

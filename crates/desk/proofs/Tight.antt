@@ -8,6 +8,7 @@ use mathlib.Core.List.{List}
 use native.Mathlib.Omega.{arith}
 use lib.ListN.{get_or}
 use lib.Dec.{T, eqb}
+use Rattle.std.specs.Prelude.{Some, None, Result, Ok, Err}
 use Rattle.rules.specs.Rule.{Sheet, Within}
 use Rattle.rules.specs.Inner.Bytes.{Room}
 use Rattle.rules.specs.Map.{Map, Holding, Written}
@@ -20,18 +21,16 @@ use Rattle.rules.proofs.Bytes.{side_index, side_bytes, written_equal, undecided_
 use Rattle.rules.proofs.Tests.{T_eq, T_ne, decided}
 use Rattle.rules.proofs.Maps.{sides}
 use Rattle.numbers.specs.declared.Refusal.{Refusal}
+use Rattle.sheet.specs.Sheet.{sheet_read}
 use Rattle.sheet.specs.Meaning.{accepted, sheet_of, sheet_meant}
 use Rattle.sheet.specs.declared.Outline.{Outline}
 use Rattle.sheet.proofs.Accepted.{numbered}
 use Rattle.sheet.proofs.sheet.Written.{meant}
 use Rattle.gate.specs.Scan.{is_contradiction}
-use Rattle.gate.specs.Gate.{sheet_gate, open_gate, solve_gate, test_gate, pin_gate, margin_gate, part_gate}
-use Rattle.gate.proofs.Calls.{Lent, open_goes, solve_goes, pin_through}
-use Rattle.desk.specs.Promise.{Upon, Checks, Parts, Opens, Pins, Solves, Tests, Margins, Ends, PinAsks, PinEnds, SolveEnds, TestEnds}
-use Rattle.desk.specs.declared.Solved.{Solved}
+use Rattle.gate.specs.Gate.{room_gate, test_gate, pin_gate, margin_gate, part_gate}
+use Rattle.gate.proofs.Calls.{Lent, room_goes, pin_through}
+use Rattle.desk.specs.Promise.{Checked, PartRead, Opened, Searched, Tested, MarginRead, closed_with, Upon, Checks, Parts, Opens, Pins, Solves, Tests, Margins, Ends, PinAsks, PinEnds, SolveEnds, TestEnds}
 use Rattle.desk.specs.declared.Solved.TheVariants.{Model as ModelFound, NoModel as NoneFound}
-use Rattle.desk.specs.declared.Tested.{Tested}
-use Rattle.desk.specs.declared.Tested.TheVariants.{Stable as IsStable, NotStable}
 use Rattle.desk.proofs.hand.Laws.{threes_are, threes_written}
 
 -- both answers and both lists of bytes are equal
@@ -44,7 +43,6 @@ both r r' m m' e e' = (fixed r r' e.0 e'.0, fixed m m' e.1 e'.1)
 -- the sheet with which a gate lets a call go on
 pub record On (s : List ℕ) (g : (Result Outline Refusal)) (sh : Sheet) : Type 0 where
   pub outline : Outline
-  pub task : Task
   pub goes : g ≡ Ok outline
   pub means : sheet_meant s outline ≡ sh
 
@@ -53,7 +51,7 @@ pub upon_both :
     (s : List ℕ) (g : (Result Outline Refusal)) {A A' : Refusal → Type 0} {B B' : Sheet → Type 0} {C : Type 0} → ((why : Refusal) → A why → A' why → C)
     → ((sh : Sheet) → On s g sh → B sh → B' sh → C) → Upon s g A B → Upon s g A' B' → C
 upon_both s (Err why) f h p p' = f why p p'
-upon_both s (Ok o) f h p p' = h (sheet_meant s o) (record { outline = o; task = t; goes = refl; means = refl }) p p'
+upon_both s (Ok o) f h p p' = h (sheet_meant s o) (record { outline = o; goes = refl; means = refl }) p p'
 
 -- a byte that is 1 or 2 is known by whether it is 1
 whole_same : (x y : ℕ) → Within 2 x → Within 2 y → eqb x 1 ≡ eqb y 1 → x ≡ y
@@ -85,11 +83,11 @@ margins_tight s m k r r' p p' =
 
 -- the sheet was accepted, and the lent map is long enough
 on_lent :
-    {s m : List ℕ} {g : (Result Outline Refusal)} {sh : Sheet} → ((o : Outline) (t : Task) → g ≡ Ok o → Lent s m o) → On s g sh
+    {s m : List ℕ} {g : (Result Outline Refusal)} {sh : Sheet} → ((o : Outline) → g ≡ Ok o → Lent s m o) → On s g sh
     → (sheet_of s ≡ accepted sh) × Room sh.atoms m
 unfolding sheet_meant
 on_lent {s} {m} f on =
-    let l = f on.outline on.task on.goes in
+    let l = f on.outline on.goes in
     (meant s on.outline l.accepted ∙ ap accepted on.means, subst (λ (x : Sheet). Room x.atoms m) on.means l.room)
 
 -- the first n bytes of two maps agree
@@ -136,7 +134,7 @@ opens_tight s m m' m'' r r' p p' =
     s
     (room_gate s m)
     (λ why. both r r' m' m'')
-    (λ sh on. ends_tight sh (Holding (computed sh)) m m' m'' r r' (on_lent (λ o t g. (room_goes s m g).1) on).1)
+    (λ sh on. ends_tight sh (Holding (computed sh)) m m' m'' r r' (on_lent (λ o g. room_goes s m g) on).1)
     p.promise
     p'.promise
 
@@ -146,7 +144,7 @@ pins_tight s m a v m' m'' r r' p p' =
     s
     (pin_gate s m a v)
     (λ why. both r r' m' m'')
-    (λ sh on. ended sh (on_lent (λ o t g. (pin_through s m a v g).lent) on).1 (is_contradiction sh.atoms m))
+    (λ sh on. ended sh (on_lent (λ o g. (pin_through s m a v g).lent) on).1 (is_contradiction sh.atoms m))
     p.promise
     p'.promise
   where
@@ -155,12 +153,12 @@ pins_tight s m a v m' m'' r r' p p' =
     ended sh room false e e' = ends_tight sh (PinAsks sh m a v) m m' m'' r r' room e e'
 
 pub test_ends_tight : (sh : Sheet) (m : List ℕ) (q q' : Tested) → TestEnds sh m q → TestEnds sh m q' → q ≡ q'
-test_ends_tight sh m IsStable IsStable e e' = refl
-test_ends_tight sh m IsStable NotStable e e' = absurd (e' e)
-test_ends_tight sh m IsStable (Err why) e e' = absurd e'
-test_ends_tight sh m NotStable IsStable e e' = absurd (e e')
-test_ends_tight sh m NotStable NotStable e e' = refl
-test_ends_tight sh m NotStable (Err why) e e' = absurd e'
+test_ends_tight sh m (Ok true) (Ok true) e e' = refl
+test_ends_tight sh m (Ok true) (Ok false) e e' = absurd (e' e)
+test_ends_tight sh m (Ok true) (Err why) e e' = absurd e'
+test_ends_tight sh m (Ok false) (Ok true) e e' = absurd (e e')
+test_ends_tight sh m (Ok false) (Ok false) e e' = refl
+test_ends_tight sh m (Ok false) (Err why) e e' = absurd e'
 test_ends_tight sh m (Err why) q' e e' = absurd e
 
 pub tests_tight : (s m : List ℕ) (r r' : Tested) → Tests s m r → Tests s m r' → r ≡ r'
@@ -169,8 +167,8 @@ tests_tight s m r r' p p' =
 
 -- two ends of a search, on two lent maps
 module _ (sh : Sheet) (ok : Numbered sh) where
-  pub solve_ends_alike : (m l m' l' : List ℕ) (r q : Solved) → SolveEnds sh m m' r → SolveEnds sh l l' q → (r ≡ q) × Agree sh.atoms m' l'
-  solve_ends_alike m l m' l' ModelFound ModelFound e e' = (
+  pub solve_ends_alike : (m l m' l' : List ℕ) (r q : Searched) → SolveEnds sh m m' r → SolveEnds sh l l' q → (r ≡ q) × Agree sh.atoms m' l'
+  solve_ends_alike m l m' l' (Ok ModelFound) (Ok ModelFound) e e' = (
     refl,
     λ i h.
         whole_same
@@ -182,26 +180,26 @@ module _ (sh : Sheet) (ok : Numbered sh) where
         ∙ first_unique ok e.first e'.first (i + 1)
         ∙ ap (λ (x : ℕ). eqb x 1) (side_index sh.atoms l' i h)),
   )
-  solve_ends_alike m l m' l' ModelFound NoneFound e e' = absurd (e'.0 _ e.first.is)
-  solve_ends_alike m l m' l' ModelFound (Err why) e e' = absurd e'
-  solve_ends_alike m l m' l' NoneFound ModelFound e e' = absurd (e.0 _ e'.first.is)
-  solve_ends_alike m l m' l' NoneFound NoneFound e e' = (
+  solve_ends_alike m l m' l' (Ok ModelFound) (Ok NoneFound) e e' = absurd (e'.0 _ e.first.is)
+  solve_ends_alike m l m' l' (Ok ModelFound) (Err why) e e' = absurd e'
+  solve_ends_alike m l m' l' (Ok NoneFound) (Ok ModelFound) e e' = absurd (e.0 _ e'.first.is)
+  solve_ends_alike m l m' l' (Ok NoneFound) (Ok NoneFound) e e' = (
     refl,
     λ i h.
         ap (λ (x : List ℕ). get_or x i 0) e.1 ∙ threes_are sh.atoms m i h
         ∙ sym (ap (λ (x : List ℕ). get_or x i 0) e'.1 ∙ threes_are sh.atoms l i h),
   )
-  solve_ends_alike m l m' l' NoneFound (Err why) e e' = absurd e'
+  solve_ends_alike m l m' l' (Ok NoneFound) (Err why) e e' = absurd e'
   solve_ends_alike m l m' l' (Err why) q e e' = absurd e
 
-solve_written : (sh : Sheet) (m m' : List ℕ) (r : Solved) → Room sh.atoms m → SolveEnds sh m m' r → Written sh.atoms m m'
-solve_written sh m m' ModelFound room e = e.written
-solve_written sh m m' NoneFound room e = subst (Written sh.atoms m) (sym e.1) (threes_written sh.atoms m room)
+solve_written : (sh : Sheet) (m m' : List ℕ) (r : Searched) → Room sh.atoms m → SolveEnds sh m m' r → Written sh.atoms m m'
+solve_written sh m m' (Ok ModelFound) room e = e.written
+solve_written sh m m' (Ok NoneFound) room e = subst (Written sh.atoms m) (sym e.1) (threes_written sh.atoms m room)
 solve_written sh m m' (Err why) room e = absurd e
 
-pub solves_tight : (s m m' m'' : List ℕ) (r r' : Solved) → Solves s m m' r → Solves s m m'' r' → Same r r' m' m''
+pub solves_tight : (s m m' m'' : List ℕ) (r r' : Searched) → Solves s m m' r → Solves s m m'' r' → Same r r' m' m''
 solves_tight s m m' m'' r r' p p' =
-    upon_both s (room_gate s m) (λ why. both r r' m' m'') (λ sh on. ended sh (on_lent (λ o t g. (room_goes s m g).1) on)) p.promise p'.promise
+    upon_both s (room_gate s m) (λ why. both r r' m' m'') (λ sh on. ended sh (on_lent (λ o g. room_goes s m g) on)) p.promise p'.promise
   where
     ended : (sh : Sheet) → (sheet_of s ≡ accepted sh) × Room sh.atoms m → SolveEnds sh m m' r → SolveEnds sh m m'' r' → Same r r' m' m''
     ended sh (is, room) e e' =

@@ -6,6 +6,7 @@ use mathlib.Core.Bool.{Bool, true, false}
 use mathlib.Core.List.{List, [], ◌∷◌}
 use lib.ListN.{get_or}
 use lib.Dec.{eqb}
+use Rattle.std.specs.Prelude.{Result, Ok, Err}
 use Rattle.rules.specs.Stable.{Model}
 use Rattle.rules.specs.Rule.{Sheet, nth_rule}
 use Rattle.rules.specs.Map.{Map, Holding, Over, side, is, signed, margin}
@@ -21,13 +22,10 @@ use Rattle.sheet.proofs.Accepted.{numbered}
 use Rattle.sheet.proofs.sheet.Written.{meant}
 use Rattle.gate.specs.Scan.{is_contradiction}
 use Rattle.gate.specs.Gate.{test_gate, pin_gate, margin_gate}
-use Rattle.gate.proofs.Calls.{Lent, opens_through, solves_through, pin_through, test_goes, margin_through}
+use Rattle.gate.proofs.Calls.{Lent, room_through, pin_through, test_goes, margin_through}
 use Rattle.gate.proofs.Past.{pin_gate_same, test_gate_same, margin_gate_same}
 use Rattle.gate.proofs.scan.Maps.{is_contradiction_same}
-use Rattle.desk.specs.Promise.{Upon, Opens, Pins, Solves, Tests, Margins, Ends, PinAsks, PinEnds, TestEnds}
-use Rattle.desk.specs.declared.Solved.{Solved}
-use Rattle.desk.specs.declared.Tested.{Tested}
-use Rattle.desk.specs.declared.Tested.TheVariants.{Stable as IsStable, NotStable}
+use Rattle.desk.specs.Promise.{Opened, Searched, Tested, MarginRead, Upon, Opens, Pins, Solves, Tests, Margins, Ends, PinAsks, PinEnds, TestEnds}
 use Rattle.desk.proofs.Tight.{Agree, ends_alike, solve_ends_alike, test_ends_tight}
 
 -- an accepted sheet, and two lent maps that are long enough
@@ -45,7 +43,7 @@ module _ (s : List ℕ) (o : Outline) (accepted : sheet_read s ≡ Ok o) (m l : 
   lent' = record { accepted = accepted; room = room' }
 
   -- where the gate lets a call go on
-  goes : (A : Refusal → Type 0) (B : Sheet → Type 0) {g : (Result Outline Refusal)} {t : Task} → g ≡ Ok o → Upon s g A B → B sh
+  goes : (A : Refusal → Type 0) (B : Sheet → Type 0) {g : Result Outline Refusal} → g ≡ Ok o → Upon s g A B → B sh
   goes A B e p = subst (λ (x : (Result Outline Refusal)). Upon s x A B) e p
 
   pub open_reads_no_map : {m' l' : List ℕ} {r q : Opened} → Opens s m m' r → Opens s l l' q → (r ≡ q) × Agree n m' l'
@@ -65,7 +63,7 @@ module _ (s : List ℕ) (o : Outline) (accepted : sheet_read s ≡ Ok o) (m l : 
       (goes _ _ (room_through lent) p.promise)
       (goes _ _ (room_through lent') p'.promise)
 
-  pub solve_reads_no_map : {m' l' : List ℕ} {r q : Solved} → Solves s m m' r → Solves s l l' q → (r ≡ q) × Agree n m' l'
+  pub solve_reads_no_map : {m' l' : List ℕ} {r q : Searched} → Solves s m m' r → Solves s l l' q → (r ≡ q) × Agree n m' l'
   unfolding sheet_meant
   solve_reads_no_map {m'} {l'} {r} {q} p p' =
       solve_ends_alike
@@ -88,11 +86,11 @@ module _ (s : List ℕ) (o : Outline) (accepted : sheet_read s ≡ Ok o) (m l : 
     -- a call whose gate is the same for both maps, and goes on, if at all, with this sheet
     by_gate :
         (g : (Result Outline Refusal)) (A A' : Refusal → Type 0) (B B' : Sheet → Type 0) {C : Type 0}
-        → ((y : Outline) (t : Task) → g ≡ Ok y → sheet_read s ≡ Ok y) → ((why : Refusal) → A why → A' why → C)
+        → ((y : Outline) → g ≡ Ok y → sheet_read s ≡ Ok y) → ((why : Refusal) → A why → A' why → C)
         → (B sh → B' sh → C) → Upon s g A B → Upon s g A' B' → C
     by_gate (Err why) A A' B B' f stop go p p' = stop why p p'
     by_gate (Ok y) A A' B B' f stop go p p' =
-        let e : y ≡ o = same_accepted (f y t refl) accepted in
+        let e : y ≡ o = same_accepted (f y refl) accepted in
         go (subst (λ (x : Outline). B (sheet_meant s x)) e p) (subst (λ (x : Outline). B' (sheet_meant s x)) e p')
       where
         same_accepted : {x y : Outline} → sheet_read s ≡ Ok x → sheet_read s ≡ Ok y → x ≡ y
@@ -107,7 +105,7 @@ module _ (s : List ℕ) (o : Outline) (accepted : sheet_read s ≡ Ok o) (m l : 
         (λ why. (q ≡ Err why) × (l' ≡ l))
         (λ x. PinEnds (is_contradiction x.atoms m) x m a v m' r)
         (λ x. PinEnds (is_contradiction x.atoms l) x l a v l' q)
-        (λ y t g. (pin_through s m a v g).lent.accepted)
+        (λ y g. (pin_through s m a v g).lent.accepted)
         (λ why e e'. (fixed r q e.0 e'.0, as_they_were e.1 e'.1))
         (λ e e'. ended (is_contradiction n m) e (subst (λ (b : Bool). PinEnds b sh l a v l' q) (sym (is_contradiction_same n m l same)) e'))
         p.promise
@@ -145,7 +143,7 @@ module _ (s : List ℕ) (o : Outline) (accepted : sheet_read s ≡ Ok o) (m l : 
         (λ why. q ≡ Err why)
         (λ x. TestEnds x m r)
         (λ x. TestEnds x l q)
-        (λ y t g. (test_goes s m g).1.accepted)
+        (λ y g. (test_goes s m g).0.accepted)
         (λ why. fixed r q)
         (λ e e'. test_ends_tight sh m r q e (ended q e'))
         p.promise
@@ -155,8 +153,8 @@ module _ (s : List ℕ) (o : Outline) (accepted : sheet_read s ≡ Ok o) (m l : 
         p'.promise)
       where
         ended : (x : Tested) → TestEnds sh l x → TestEnds sh m x
-        ended IsStable e = subst (λ (M : Map). Model sh (is 1 M)) (sym sides) e
-        ended NotStable e = λ md. e (subst (λ (M : Map). Model sh (is 1 M)) sides md)
+        ended (Ok true) e = subst (λ (M : Map). Model sh (is 1 M)) (sym sides) e
+        ended (Ok false) e = λ md. e (subst (λ (M : Map). Model sh (is 1 M)) sides md)
         ended (Err why) e = e
 
     pub margin_reads_no_more : (k : ℕ) {r q : MarginRead} → Margins s m k r → Margins s l k q → r ≡ q
@@ -168,7 +166,7 @@ module _ (s : List ℕ) (o : Outline) (accepted : sheet_read s ≡ Ok o) (m l : 
         (λ why. q ≡ Err why)
         (λ x. r ≡ Ok (margin (nth_rule x k) (side x.atoms m)))
         (λ x. q ≡ Ok (margin (nth_rule x k) (side x.atoms l)))
-        (λ y t g. (margin_through s m k g).1.accepted)
+        (λ y g. (margin_through s m k g).1.accepted)
         (λ why. fixed r q)
         (λ e e'. e ∙ ap (λ (M : Map). Ok (margin (nth_rule sh k) M)) sides ∙ sym e')
         p.promise

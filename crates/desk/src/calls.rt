@@ -1,14 +1,16 @@
 // Each call: its gate, its work on the sheet's table, and its answer handed over.
+ghost use Rattle.rules.specs.Rule.{Within};
+ghost use Rattle.rules.specs.Inner.Bytes.{Room, MapBytes};
 ghost use Rattle.desk.specs.Promise.{Checks, Parts, Opens, Pins, Solves, Tests, Margins};
 
-use super::hand::hand;
+use super::hand::{hand, write_threes};
 use super::run::on_table;
 use super::{Counts, Solved};
 use gate::{is_contradiction, margin_gate, part_gate, pin_gate, room_gate, test_gate};
 use numbers::Refusal;
-use rules::{Atom, RuleNo};
+use rules::RuleNo;
 use sheet::read_sheet;
-use task::{close_held, close_pinned, first_model};
+use task::{copy, first_model, held, opened, pinned};
 
 // "Check a sheet: accepted with n and the rule count, or a refusal."
 pub fn check(s: &[u8]) -> Result<Counts, Refusal>
@@ -37,30 +39,29 @@ pub fn open(s: &[u8], map: &mut [u8]) -> Result<Option<usize>, Refusal>
     ensures { Opens s.now map.old map.new result }
 {
     let sheet = room_gate(s, map)?;
-    let mut work = [0u8; Atom::LAST];
-    let closed = on_table(s, sheet, 0, |t, _| close_held(&t, &mut work));
-    Ok(hand(sheet.atoms, closed, &work, map))
+    let closed = on_table(s, sheet, 0, |t, _| opened(&t));
+    Ok(hand(sheet.atoms, closed, map))
 }
 
 // "Pin: takes an atom and 1 (in) or 2 (out); the map becomes the smallest closed map holding the old map and the pin." "A pin on a
 // contradiction answers contradiction again."
-pub fn pin(
-    s: &[u8],
-    map: &mut [u8],
-    atom: usize,
-    side: usize,
-) -> Result<Option<usize>, Refusal>
+pub fn pin(s: &[u8], map: &mut [u8], atom: usize, side: usize) -> Result<Option<usize>, Refusal>
     ensures { Pins s.now map.old atom side map.new result }
 {
-    let (sheet, pinned) = pin_gate(s, map, atom, side)?;
-    let n = sheet.atoms;
-    if is_contradiction(map, n) {
+    let (sheet, put) = pin_gate(s, map, atom, side)?;
+    if is_contradiction(map, sheet.atoms) {
         return Ok(None);
     }
-    let mut work = [0u8; Atom::LAST];
-    work[..n].copy_from_slice(&map[..n]);
-    let closed = on_table(s, sheet, 0, |t, _| close_pinned(&t, pinned, &mut work));
-    Ok(hand(n, closed, &work, map))
+    let closed = on_table(
+        s,
+        sheet,
+        0,
+        |t, _|
+            requires map { MapBytes t.atoms map.now }
+            requires atom { Within t.atoms put.atom.number }
+        { pinned(&t, put, map) },
+    );
+    Ok(hand(sheet.atoms, closed, map))
 }
 
 // "Solve: the first agreeing stable model as a map of 1s and 2s, or none and n bytes of 3."
@@ -71,11 +72,11 @@ pub fn solve(s: &[u8], map: &mut [u8]) -> Result<Solved, Refusal>
     let n = sheet.atoms;
     match on_table(s, sheet, 0, |t, _| first_model(&t)) {
         Some(model) => {
-            map[..n].copy_from_slice(&model[..n]);
+            copy(&model, n, map);
             Ok(Solved::Model)
         }
         None => {
-            map[..n].fill(3);
+            write_threes(n, map);
             Ok(Solved::NoModel)
         }
     }
@@ -87,11 +88,15 @@ pub fn test(s: &[u8], map: &[u8]) -> Result<bool, Refusal>
     ensures { Tests s.now map.now result }
 {
     let sheet = test_gate(s, map)?;
-    let n = sheet.atoms;
-    let mut work = [0u8; Atom::LAST];
-    work[..n].copy_from_slice(&map[..n]);
-    let closed = on_table(s, sheet, 0, |t, _| close_held(&t, &mut work));
-    Ok(closed.is_ok())
+    let closed = on_table(
+        s,
+        sheet,
+        0,
+        |t, _|
+            requires { MapBytes t.atoms map.now }
+        { held(&t, map) },
+    );
+    Ok(closed.is_some())
 }
 
 // "Margin: reach less need for one rule on one map."
@@ -100,7 +105,12 @@ pub fn margin(s: &[u8], map: &[u8], rule: usize) -> Result<i64, Refusal>
 {
     let (sheet, asked) = margin_gate(s, map, rule)?;
     let place = asked.number() - RuleNo::FIRST;
-    Ok(on_table(s, sheet, place, |_, row| {
-        weigh::margin(&row, map)
-    }))
+    Ok(on_table(
+        s,
+        sheet,
+        place,
+        |_, row|
+            requires { Room row.atoms map.now }
+        { weigh::margin(&row, map) },
+    ))
 }

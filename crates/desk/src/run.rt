@@ -1,5 +1,5 @@
 // What comes after a gate: the sheet is decoded into a table, and the call's work done on it. Only here are there several sizes of table.
-ghost use Rattle.std.specs.Prelude.{◌≤◌, ◌≡◌, length, Ok};
+ghost use Rattle.std.specs.Prelude.{◌-◌, ◌≤◌, ◌≡◌, length, Ok};
 ghost use Rattle.rules.specs.Limits.{bytes_most};
 ghost use Rattle.sheet.specs.Sheet.{sheet_read};
 ghost use Rattle.decode.specs.Inner.Decode.{table_words};
@@ -20,6 +20,7 @@ fn on_words<const W: usize, R, F: FnOnce(Table<'_>, TableRow<'_>) -> R>(
     work: F,
 ) -> R
     requires accepted { sheet_read s.now ≡ Ok sheet }
+    requires asked { wanted ≤ sheet.rules.value - 1 }
     requires room { table_words (length s.now) ≤ W }
     requires small { W ≤ table_words bytes_most }
     requires ready { (t : _) (row : _) → Stands s.now sheet wanted t.code.now t.atoms t.rules row.code.now row.atoms row.at → F.pre work t row }
@@ -39,6 +40,7 @@ pub(crate) fn on_table<R, F: FnOnce(Table<'_>, TableRow<'_>) -> R>(
     work: F,
 ) -> R
     requires accepted { sheet_read s.now ≡ Ok sheet }
+    requires asked { wanted ≤ sheet.rules.value - 1 }
     requires ready { (t : _) (row : _) → Stands s.now sheet wanted t.code.now t.atoms t.rules row.code.now row.atoms row.at → F.pre work t row }
     ensures { (t : _) × (row : _) × Stands s.now sheet wanted t.code.now t.atoms t.rules row.code.now row.atoms row.at × F.post work t row result }
 {

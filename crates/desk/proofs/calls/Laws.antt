@@ -1,19 +1,21 @@
 -- Each call, put together: a gate that stops it is its refusal, and else its work, handed over, is its answer.
-use Prim.Native.Nat.{ℕ, ◌-◌, ◌≤◌, ◌<◌}
+use Prim.Native.Nat.{ℕ, ◌-◌, ◌≤◌}
 use mathlib.Core.Path.{◌≡◌, refl, sym, ◌∙◌, ap, ap₂, subst}
 use mathlib.Core.Bool.{Bool, true, false}
 use mathlib.Core.List.{List, [], ◌∷◌}
 use native.Mathlib.Omega.{arith}
-use lib.ListN.{length, length-replicate, get_or}
+use lib.ListN.{get_or}
 use lib.Dec.{eqb}
 use lib.IntN.{ℤ}
-use Rattle.std.specs.Prelude.{Option, Some, None, Result, Ok, Err, is_ok}
+use Rattle.std.specs.Prelude.{Option, Some, None, Result, Ok, Err, is_some}
+use Rattle.std.specs.Option.{ForSome}
 use Rattle.rules.specs.Limits.{atoms_most}
 use Rattle.rules.specs.Rule.{Rule, Sheet, nth_rule, no_rule, Within, part_of}
-use Rattle.rules.specs.Stable.{Model, First, NoModel}
-use Rattle.rules.specs.Map.{Map, Literal, Holding, Over, side, is, signed, margin, Whole, blank}
+use Rattle.rules.specs.Stable.{Model, First}
+use Rattle.rules.specs.Map.{Map, Literal, Holding, Over, side, is, signed, margin, Whole}
 use Rattle.rules.specs.Forcing.{Closed, Least, computed}
 use Rattle.rules.specs.Inner.Bytes.{Room, MapBytes}
+use Rattle.rules.specs.declared.RuleNo.{RuleNo}
 use Rattle.rules.proofs.Fits.{Numbered}
 use Rattle.rules.proofs.Shuffle.{computed_same}
 use Rattle.rules.proofs.Testing.{closed_model, clash_no_model}
@@ -24,21 +26,21 @@ use Rattle.sheet.specs.declared.Outline.{Outline}
 use Rattle.sheet.proofs.sheet.Ran.{sheet_ran}
 use Rattle.sheet.proofs.Accepted.{numbered}
 use Rattle.sheet.proofs.sheet.Written.{meant}
-use Rattle.table.specs.Inner.Rows.{row_rule, table_sheet, Laid}
+use Rattle.table.specs.Inner.Rows.{row_rule, table_sheet}
 use Rattle.gate.specs.Scan.{is_contradiction}
-use Rattle.gate.specs.Gate.{room_gate, test_gate, pin_gate, margin_gate, part_gate}
-use Rattle.gate.proofs.scan.Maps.{contradiction_bytes}
-use Rattle.gate.proofs.Calls.{Lent, Through, room_goes, pin_through, test_goes, margin_through, part_through}
-use Rattle.weigh.specs.declared.Clash.{Clash}
+use Rattle.gate.specs.Gate.{room_gate, test_gate, pin_gate, margin_gate, part_gate, pin_of, rule_of}
+use Rattle.gate.specs.declared.Pin.{Pin}
+use Rattle.gate.proofs.Calls.{Lent, room_goes, pin_through, test_goes, margin_through, part_through}
 use Rattle.search.specs.Inner.Search.{FirstIn}
-use Rattle.task.specs.Inner.Closed.{ClosedFor, Finishes}
-use Rattle.task.proofs.Shuffled.{closed_for, over_shuffled, first_in}
-use Rattle.task.proofs.closed.Laws.{held}
-use Rattle.desk.specs.Promise.{Opened, Searched, Upon, Checks, Parts, Ends, Opens, PinEnds, Pins, SolveEnds, Solves, TestEnds, Tests, Margins, PinAsks, threes}
+use Rattle.task.specs.Inner.Copy.{first_bytes}
+use Rattle.task.specs.Inner.Closed.{ClosedFor}
+use Rattle.task.specs.declared.closed.ClosedMap.{ClosedMap}
+use Rattle.task.proofs.Shuffled.{held_shuffled, over_shuffled, first_in}
+use Rattle.task.proofs.bytes.Laws.{first_byte, first_side, first_written, first_undecided}
+use Rattle.desk.specs.Promise.{Upon, Checks, Parts, Ends, Opens, PinEnds, Pins, SolveEnds, Solves, TestEnds, Tests, Margins, PinAsks, threes}
 use Rattle.desk.specs.Inner.Run.{Stands}
-use Rattle.desk.specs.Inner.Hand.{first_bytes, Handed, Hands}
+use Rattle.desk.specs.Inner.Hand.{Handed, Hands}
 use Rattle.desk.specs.declared.Solved.TheVariants.{Model as ModelFound, NoModel as NoneFound}
-use Rattle.desk.proofs.hand.Laws.{threes_stay, first_byte, first_side, first_written, first_undecided}
 
 -- a gate that is known
 pub upon_stop :
@@ -57,112 +59,140 @@ few_atoms s o e = (sheet_ran s o e).well_formed.atoms
 
 -- the map handed over is the end of the question
 map_ends :
-    (sh : Sheet) (Q : Map → Type 0) {work m m' : List ℕ} (r : Result ℕ Clash) {a : Option ℕ} → ClosedFor sh Q work r → Room sh.atoms work
-    → Room sh.atoms m → Handed sh.atoms r work m m' a → Ends sh Q m m' (Ok a)
-map_ends sh Q {work} {m} {m'} (Ok k) {a} (l, u) worked lent (q, bytes) =
+    (sh : Sheet) (Q : Map → Type 0) (m m' : List ℕ) (x : Option ClosedMap) (a : Option ℕ) → ClosedFor sh Q x → Room sh.atoms m
+    → Handed sh.atoms x m m' a → Ends sh Q m m' (Ok a)
+map_ends sh Q m m' (Some x) a l lent (q, bytes) =
     subst
-    (λ (x : Option ℕ). Ends sh Q m m' (Ok x))
+    (λ (y : Option ℕ). Ends sh Q m m' (Ok y))
     (sym q)
     (subst
-    (λ (x : List ℕ). Ends sh Q m x (Ok (Some k)))
+    (λ (y : List ℕ). Ends sh Q m y (Ok (Some x.undecided)))
     (sym bytes)
     (record {
-      least = subst (λ (M : Map). Least (Closed sh.rules sh.atoms) Q M) (first_side sh.atoms work m worked) l;
-      open' = u ∙ first_undecided sh.atoms work m worked lent;
-      written = first_written sh.atoms work m worked lent;
+      least = subst (λ (M : Map). Least (Closed sh.rules sh.atoms) Q M) (first_side sh.atoms x.map m l.room) l.least;
+      open' = l.open' ∙ first_undecided sh.atoms x.map m l.room lent;
+      written = first_written sh.atoms x.map m l.room lent;
     }))
-map_ends sh Q {work} {m} {m'} (Err clash) none worked lent (q, bytes) =
-    subst (λ (x : Option ℕ). Ends sh Q m m' (Ok x)) (sym q) (record { none = none; bytes = bytes })
+map_ends sh Q m m' None a none lent (q, bytes) =
+    subst (λ (y : Option ℕ). Ends sh Q m m' (Ok y)) (sym q) (record { none = none; bytes = bytes })
 
--- the calls that go on, each with the table that its work was done on
-module _ {s m w' m' : List ℕ} {o : Outline} {c : List ℕ} {n count : ℕ} {d : List ℕ} {k at : ℕ} {wanted : ℕ} (on : Stands s o wanted c n count d k at) where
-  abbrev sh : Sheet
-  sh = sheet_meant s o
+-- what was found on the table is of the sheet
+module _
+    {s : List ℕ}
+    {o : Outline}
+    {c : List ℕ}
+    {n count wanted : ℕ}
+    {d : List ℕ}
+    {k at : ℕ}
+    (on : Stands s o wanted c n count d k at)
+    (x : Option ClosedMap)
+  where
+    opened_on : ClosedFor (table_sheet c n count) (Holding (computed (table_sheet c n count))) x → ClosedFor (sheet_meant s o) (Holding (computed (sheet_meant s o))) x
+    opened_on f = held_shuffled on.sheet x f
 
-  abbrev ts : Sheet
-  ts = table_sheet c n count
-
-  module _ (laid : Laid c n count) {r : Result ℕ Clash} {a : Option ℕ} where
-    pub opens :
-        room_gate s m ≡ Ok o → Finishes ts (Over (side n blank) (computed ts)) blank w' r → Room o.atoms w' → Hands o.atoms r w' m m' a
-        → Opens s m m' (Ok a)
+    over_on :
+        (m : List ℕ) {ps qs : List Literal} → ps ≡ qs → ClosedFor (table_sheet c n count) (Over (side n m) ps) x
+        → ClosedFor (sheet_meant s o) (Over (side o.atoms m) qs) x
     unfolding sheet_meant
-    opens g f worked h =
+    over_on m e f = over_shuffled on.sheet m e x f
+
+    -- a map that was found has room for the sheet's atoms
+    pub has_room : (Q : Map → Type 0) → ClosedFor (table_sheet c n count) Q x → ForSome x (λ y. Room o.atoms y.map)
+    has_room Q f y e =
+        subst (λ (j : ℕ). Room j y.map) on.atoms (subst (ClosedFor (table_sheet c n count) Q) e f).room
+
+    pub opens :
+        {m m' : List ℕ} {a : Option ℕ} → room_gate s m ≡ Ok o
+        → ClosedFor (table_sheet c n count) (Holding (computed (table_sheet c n count))) x → Hands o.atoms x m m' a → Opens s m m' (Ok a)
+    unfolding sheet_meant
+    opens {m} {m'} {a} g f h =
         record {
           promise =
               upon_go s _ _ g
-              (map_ends sh (Holding (computed sh)) r
-              (closed_for on.sheet w' (Over (side n blank) (computed ts)) (Holding (computed sh))
-              (λ X q. subst (λ (ls : List Literal). Holding ls X) (computed_same on.sheet) q.holds)
-              (λ X q. held laid X (subst (λ (ls : List Literal). Holding ls X) (sym (computed_same on.sheet)) q))
-              r
-              f.closed)
-              worked
-              (room_goes s m g).room
-              h.handed);
+              (map_ends (sheet_meant s o) (Holding (computed (sheet_meant s o))) m m' x a (opened_on f) (room_goes s m g).room h.handed);
         }
 
-  -- on a copy of the lent map
-  module _ {w : List ℕ} (copied : w ≡ first_bytes o.atoms m blank) {r : Result ℕ Clash} where
-    same_side : Room o.atoms m → side o.atoms w ≡ side o.atoms m
-    same_side room = ap (λ (x : List ℕ). side o.atoms x) copied ∙ sym (first_side o.atoms m blank room)
-
-    asked :
-        {ps qs : List Literal} → ps ≡ qs → Room o.atoms m → ClosedFor ts (Over (side n w) ps) w' r → ClosedFor sh (Over (side o.atoms m) qs) w' r
-    unfolding sheet_meant
-    asked {ps} {qs} e room q =
-        subst
-        (λ (M : Map). ClosedFor sh (Over M qs) w' r)
-        (same_side room)
-        (over_shuffled on.sheet w w' e r q)
-
     pub pins :
-        {a v : ℕ} {x : Option ℕ} → pin_gate s m a v ≡ Ok o → is_contradiction o.atoms m ≡ false
-        → Finishes ts (Over (side n w) (signed (eqb v 1) a ∷ [])) w w' r → Room o.atoms w' → Hands o.atoms r w' m m' x
-        → Pins s m a v m' (Ok x)
+        {m m' : List ℕ} {i : Option ℕ} {a v : ℕ} → pin_gate s m a v ≡ Ok o → is_contradiction o.atoms m ≡ false
+        → ClosedFor (table_sheet c n count) (Over (side n m) (signed (eqb v 1) a ∷ [])) x → Hands o.atoms x m m' i → Pins s m a v m' (Ok i)
     unfolding sheet_meant
-    pins {a} {v} {x} g none f worked h =
-        let room = (pin_through s m a v g).lent.room in
+    pins {m} {m'} {i} {a} {v} g none f h =
         record {
           promise =
               upon_go s _ _ g
               (subst
-              (λ (b : Bool). PinEnds b sh m a v m' (Ok x))
+              (λ (b : Bool). PinEnds b (sheet_meant s o) m a v m' (Ok i))
               (sym none)
-              (map_ends sh (PinAsks sh m a v) r (asked refl room f.closed) worked room h.handed));
+              (map_ends (sheet_meant s o) (PinAsks (sheet_meant s o) m a v) m m' x i (over_on m refl f) (pin_through s m a v g).lent.room
+              h.handed));
         }
 
-    pub tests : {b : Bool} → test_gate s m ≡ Ok o → Finishes ts (Over (side n w) (computed ts)) w w' r → b ≡ is_ok r → Tests s m (Ok b)
+    pub tests :
+        {m : List ℕ} {b : Bool} → test_gate s m ≡ Ok o
+        → ClosedFor (table_sheet c n count) (Over (side n m) (computed (table_sheet c n count))) x → b ≡ is_some x → Tests s m (Ok b)
     unfolding sheet_meant
-    tests {b} g f e = record { promise = upon_go s _ _ g (subst (λ (y : Bool). TestEnds sh m (Ok y)) (sym e) (by r (asked (computed_same on.sheet) room f.closed))) }
+    tests {m} {b} g f e =
+        record {
+          promise =
+              upon_go s _ _ g (subst (λ (y : Bool). TestEnds sh m (Ok y)) (sym e) (by x (over_on m (computed_same on.sheet) f)));
+        }
       where
+        sh : Sheet
+        sh = sheet_meant s o
+
         goes : Lent s m o × Whole o.atoms m
         goes = test_goes s m g
-
-        room : Room o.atoms m
-        room = goes.0.room
 
         ok : Numbered sh
         ok = numbered s sh (meant s o goes.0.accepted)
 
-        by : (y : Result ℕ Clash) → ClosedFor sh (Over (side o.atoms m) (computed sh)) w' y → TestEnds sh m (Ok (is_ok y))
-        by (Ok u) (l, z) = closed_model ok m goes.1 l
-        by (Err clash) q = clash_no_model ok m goes.1 q
+        by : (y : Option ClosedMap) → ClosedFor sh (Over (side o.atoms m) (computed sh)) y → TestEnds sh m (Ok (is_some y))
+        by (Some y) l = closed_model ok m goes.1 l.least
+        by None q = clash_no_model ok m goes.1 q
 
-  -- the first model
-  module _ {r : Option (List ℕ)} (g : room_gate s m ≡ Ok o) (f : FirstIn n (Model ts) r) where
+-- a map that the gate let through is one of the table's
+pub on_map :
+    {s m : List ℕ} {o : Outline} {c : List ℕ} {n count wanted : ℕ} {d : List ℕ} {k at : ℕ} → Stands s o wanted c n count d k at
+    → MapBytes o.atoms m → MapBytes n m
+on_map {m = m} on p = subst (λ (j : ℕ). MapBytes j m) (sym on.atoms) p
+
+-- and so is the atom of the pin, which is the one that was asked for
+pub on_atom :
+    {s : List ℕ} {o : Outline} {c : List ℕ} {n count wanted : ℕ} {d : List ℕ} {k at a : ℕ} (v : ℕ) {put : Pin} → Stands s o wanted c n count d k at
+    → pin_of a v ≡ put → Within o.atoms a → Within n put.atom.number
+on_atom {n = n} {a = a} v on same w =
+    subst (λ (p : Pin). Within n p.atom.number) same (subst (λ (j : ℕ). Within j a) (sym on.atoms) w)
+
+pub pin_asked :
+    {a : ℕ} (v : ℕ) {put : Pin} (sh : Sheet) (M : Map) (x : Option ClosedMap) → pin_of a v ≡ put
+    → ClosedFor sh (Over M (signed put.inside put.atom.number ∷ [])) x → ClosedFor sh (Over M (signed (eqb v 1) a ∷ [])) x
+pin_asked v sh M x same f = subst (λ (p : Pin). ClosedFor sh (Over M (signed p.inside p.atom.number ∷ [])) x) (sym same) f
+
+-- the first model
+module _
+    {s m m' : List ℕ}
+    {o : Outline}
+    {c : List ℕ}
+    {n count wanted : ℕ}
+    {d : List ℕ}
+    {k at : ℕ}
+    {r : Option (List ℕ)}
+    (on : Stands s o wanted c n count d k at)
+    (g : room_gate s m ≡ Ok o)
+    (f : FirstIn n (Model (table_sheet c n count)) r)
+  where
     pub solves_model : {model : List ℕ} → r ≡ Some model → Room o.atoms model → m' ≡ first_bytes o.atoms model m → Solves s m m' (Ok ModelFound)
     unfolding sheet_meant
     solves_model {model} e room bytes =
-        let (first, whole) = subst (FirstIn o.atoms (Model sh)) e (first_in on.sheet r f) in
+        let (first, whole) = subst (FirstIn o.atoms (Model (sheet_meant s o))) e (first_in on.sheet r f) in
         record {
           promise =
               upon_go s _ _ g
               (subst
-              (λ (x : List ℕ). SolveEnds sh m x (Ok ModelFound))
+              (λ (x : List ℕ). SolveEnds (sheet_meant s o) m x (Ok ModelFound))
               (sym bytes)
               (record {
-                first = subst (λ (M : Map). First sh (is 1 M)) (first_side o.atoms model m room) first;
+                first = subst (λ (M : Map). First (sheet_meant s o) (is 1 M)) (first_side o.atoms model m room) first;
                 whole = λ i l. subst (Within 2) (sym (first_byte o.atoms model m room i l)) (whole i l);
                 written = first_written o.atoms model m room (room_goes s m g).room;
               }));
@@ -171,29 +201,45 @@ module _ {s m w' m' : List ℕ} {o : Outline} {c : List ℕ} {n count : ℕ} {d 
     pub solves_none : r ≡ None → m' ≡ threes o.atoms m → Solves s m m' (Ok NoneFound)
     unfolding sheet_meant
     solves_none e bytes =
-        record { promise = upon_go s _ _ g (subst (FirstIn o.atoms (Model sh)) e (first_in on.sheet r f), bytes) }
+        record { promise = upon_go s _ _ g (subst (FirstIn o.atoms (Model (sheet_meant s o))) e (first_in on.sheet r f), bytes) }
+
+-- a rule that was let through
+pub asked_place :
+    {count number j : ℕ} {asked : RuleNo} → rule_of number ≡ asked → j ≡ asked.number → Within count number
+    → (j ≡ number) × (1 ≤ j) × (j - 1 ≤ count - 1)
+asked_place {count} {number} {j} {asked} same e w =
+    let k : j ≡ number = e ∙ ap (λ (r : RuleNo). r.number) (sym same) in
+    (k, omega (arith, k, w.low), omega (arith, k, w.high))
 
 -- what is asked of a rule, on its row
-module _ {s m : List ℕ} {o : Outline} {number : ℕ} {c : List ℕ} {n count : ℕ} {d : List ℕ} {k at : ℕ} (on : Stands s o (number - 1) c n count d k at) where
-  same_rule : Within o.rules.value number → row_rule d at ≡ nth_rule (sheet_meant s o) number
-  same_rule w = on.row (omega (arith, w.low, w.high))
+same_rule :
+    {s : List ℕ} {o : Outline} {number wanted : ℕ} {c : List ℕ} {n count : ℕ} {d : List ℕ} {k at : ℕ} → Stands s o wanted c n count d k at
+    → wanted ≡ number - 1 → Within o.rules.value number → row_rule d at ≡ nth_rule (sheet_meant s o) number
+same_rule {s} {o} on e w =
+    on.row (omega (arith, e, w.low, w.high)) ∙ ap (λ (j : ℕ). get_or (sheet_meant s o).rules j no_rule) e
 
-  pub margins : {z : ℤ} → margin_gate s m number ≡ Ok o → z ≡ margin (row_rule d at) (side k m) → Margins s m number (Ok z)
-  unfolding sheet_meant
-  margins {z} g e =
-      record {
-        promise =
-            upon_go s _ _ g
-            (ap (λ (y : ℤ). Ok y)
-            (e ∙ ap₂ (λ (r : Rule) (j : ℕ). margin r (side j m)) (same_rule (margin_through s m number g).0) on.row_atoms));
-      }
+pub margins :
+    {s m : List ℕ} {o : Outline} {number wanted : ℕ} {c : List ℕ} {n count : ℕ} {d : List ℕ} {k at : ℕ} {z : ℤ}
+    → Stands s o wanted c n count d k at → wanted ≡ number - 1 → margin_gate s m number ≡ Ok o → z ≡ margin (row_rule d at) (side k m)
+    → Margins s m number (Ok z)
+unfolding sheet_meant
+margins {s} {m} {o} {number} on w g e =
+    record {
+      promise =
+          upon_go s _ _ g
+          (ap (λ (y : ℤ). Ok y)
+          (e ∙ ap₂ (λ (r : Rule) (j : ℕ). margin r (side j m)) (same_rule on w (margin_through s m number g).0) on.row_atoms));
+    }
 
-  pub parts : {p i : ℕ} {x : Option ℕ} → part_gate s number ≡ Ok o → x ≡ part_of (row_rule d at) p i → Parts s number p i (Ok x)
-  parts {p} {i} {x} g e =
-      record {
-        promise =
-            upon_go s _ _ g (ap (λ (y : Option ℕ). Ok y) (e ∙ ap (λ (r : Rule). part_of r p i) (same_rule (part_through s number g).0)));
-      }
+pub parts :
+    {s : List ℕ} {o : Outline} {number wanted : ℕ} {c : List ℕ} {n count : ℕ} {d : List ℕ} {k at p i : ℕ} {x : Option ℕ}
+    → Stands s o wanted c n count d k at → wanted ≡ number - 1 → part_gate s number ≡ Ok o → x ≡ part_of (row_rule d at) p i → Parts s number p i (Ok x)
+parts {s} {o} {number} {p = p} {i = i} on w g e =
+    record {
+      promise =
+          upon_go s _ _ g
+          (ap (λ (y : Option ℕ). Ok y) (e ∙ ap (λ (r : Rule). part_of r p i) (same_rule on w (part_through s number g).0)));
+    }
 
 -- a pin on a contradiction
 pub pins_stay : {s m : List ℕ} {a v : ℕ} {o : Outline} → pin_gate s m a v ≡ Ok o → is_contradiction o.atoms m ≡ true → Pins s m a v m (Ok None)

@@ -1,19 +1,21 @@
 -- The table that comes of a sheet, on which a call's work is done: a blank one has room for the sheet, and once decoded it holds the
 -- sheet's rules, and the row of the rule at an index that rule.
 use Prim.Native.Nat.{ℕ, ◌-◌, ◌≤◌, ◌<◌}
-use mathlib.Core.Path.{◌≡◌, refl, sym, ◌∙◌, ap, subst}
+use mathlib.Core.Path.{◌≡◌, sym, ◌∙◌, ap₂, subst}
 use mathlib.Core.List.{List}
 use mathlib.Core.Logic.{⊎_elim}
 use native.Mathlib.Omega.{arith}
 use lib.ListN.{length, replicate}
 use Rattle.std.specs.Prelude.{Ok}
 use Rattle.rules.specs.Limits.{bytes_most}
+use Rattle.rules.specs.Rule.{Shuffled}
 use Rattle.rules.proofs.Tests.{below?}
 use Rattle.sheet.specs.Sheet.{sheet_read}
+use Rattle.sheet.specs.Meaning.{sheet_meant}
 use Rattle.sheet.specs.declared.Outline.{Outline}
 use Rattle.sheet.proofs.sheet.Ran.{sheet_ran}
 use Rattle.table.specs.Inner.Words.{pair_width}
-use Rattle.table.specs.Inner.Rows.{row_rule}
+use Rattle.table.specs.Inner.Rows.{row_rule, table_sheet}
 use Rattle.decode.specs.Inner.Decode.{table_words, Decodable, Decoded}
 use Rattle.decode.specs.declared.Table.{Table}
 use Rattle.weigh.proofs.Bytes.{blank_room}
@@ -31,10 +33,6 @@ module _ (s : List ℕ) (o : Outline) (e : sheet_read s ≡ Ok o) where
   unfolding table_words pair_width
   few_words most h = omega (arith, h)
 
-  pub most_words : (most : ℕ) → most ≤ bytes_most → table_words most ≤ table_words bytes_most
-  unfolding table_words pair_width
-  most_words most h = omega (arith, h)
-
 module _ {s : List ℕ} {o : Outline} {wanted : ℕ} {c c' : List ℕ} {table : Table} (d : Decoded s o wanted c c' table) where
   -- the row is one of the table's
   pub row_there : wanted ≤ o.rules.value - 1 → table.row ≤ table.rules
@@ -44,7 +42,21 @@ module _ {s : List ℕ} {o : Outline} {wanted : ℕ} {c c' : List ℕ} {table : 
       (λ (many : o.rules.value ≤ wanted). omega (arith, d.row_most, h, many))
       (below? wanted o.rules.value)
 
+  -- of a table and a row whose words, atoms and place were handed over
   pub stands :
-      {n count k at : ℕ} {e : List ℕ} → n ≡ o.atoms → count ≡ table.rules → e ≡ c' → k ≡ o.atoms → at ≡ table.row
-      → Stands s o wanted c' n count e k at
-  stands = ?
+      {words e : List ℕ} {n count k at : ℕ} → words ≡ c' → n ≡ o.atoms → count ≡ table.rules → e ≡ words → k ≡ n → at ≡ table.row
+      → Stands s o wanted words n count e k at
+  stands {words} {e} {n} {count} {k} {at} same atoms rules row_words row_atoms place =
+      record {
+        atoms = atoms;
+        sheet =
+            subst
+            (λ (x : List ℕ). Shuffled (table_sheet x n count) (sheet_meant s o))
+            (sym same)
+            (subst
+            (λ (x : ℕ). Shuffled (table_sheet c' x count) (sheet_meant s o))
+            (sym atoms)
+            (subst (λ (x : ℕ). Shuffled (table_sheet c' o.atoms x) (sheet_meant s o)) (sym rules) d.sheet));
+        row_atoms = row_atoms ∙ atoms;
+        row = λ h. ap₂ row_rule (row_words ∙ same) place ∙ (d.row h).same;
+      }

@@ -1,20 +1,12 @@
--- `first_model` meets its contract: the sheet is opened on a blank map, and the first model above that map is the sheet's first.
-use Rattle.rules.specs.Limits.{atoms_most}
-use Rattle.task.proofs.closed.Laws.{opened_stands, searched, not_searched, blank_fits}
+-- `first_model` meets its contract: the first model above the opened map is the sheet's first.
+use Rattle.task.proofs.closed.Laws.{opened_stands, searched, not_searched}
 use Rattle.task.proofs.closed.first_model.Goals as goal
 
-pub close_held-requires : goal.close_held-requires
-unfolding atoms_most
-close_held-requires c = blank_fits c.args.t.now.laid.few_atoms
+pub returns-in_err-opened : goal.returns-in_err-opened
+returns-in_err-opened c = rw c.from_residual.ensures (not_searched _ _ _ c.args.t.now.laid c.in_err-opened.ensures)
 
 pub choose-requires : goal.choose-requires
-unfolding atoms_most
-choose-requires c = opened_stands c.args.t.now.laid c.in-Ok.ensures
-
-pub returns-in_default : goal.returns-in_default
-unfolding atoms_most
-returns-in_default c = not_searched c.args.t.now.laid c.in_default.ensures
+choose-requires c = opened_stands _ _ _ c.args.t.now.laid _ c.in_ok-opened.ensures
 
 pub returns : goal.returns
-unfolding atoms_most
-returns c = searched c.args.t.now.laid c.in-Ok.ensures _ c.choose.ensures
+returns c = searched _ _ _ c.args.t.now.laid _ c.in_ok-opened.ensures _ c.choose.ensures
