@@ -1,4 +1,4 @@
-// Why a sheet or a call is refused: each reason by its name, with the paper's sentence for it and its number.
+// Why a sheet or a call is refused: each reason by its name, with its number and the sentence for it.
 ghost use Rattle.std.specs.Prelude.{◌≡◌};
 ghost use Rattle.numbers.specs.Answer.{reason_number, refusal};
 
@@ -41,7 +41,7 @@ pub enum Reason {
 }
 
 impl Reason {
-    // The number by which the paper names the reason.
+    // The number of the refusal.
     pub fn number(self) -> usize
         ensures { result ≡ reason_number self }
     {
