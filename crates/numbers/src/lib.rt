@@ -1,5 +1,5 @@
 // The numbers and the lists of a sheet: what its bytes say at a place, or why they are refused. Every reader takes any bytes and any
-// place.
+// place, so bytes, atom count and place stay parameters: a struct of them would hold no fact, and its methods be no plainer.
 #![tactic(auto)]
 
 ghost use Rattle.std.specs.Prelude.{◌≡◌};
