@@ -8,7 +8,9 @@ use lib.ListN.{length, length-map}
 use lib.Dec.{ltb, eqb}
 use borrow.Author.Tests.{ltb-true}
 use Rattle.rules.specs.Limits.{atoms_most, weight_most, number_most}
-use Rattle.rules.specs.Rule.{Rule, Kind, basic, constraint, choice, weight, Weighted, body, kind_number, atoms_of, weights_of, item_of, part_of}
+use Rattle.rules.specs.Rule.{Rule, Weighted, body, kind_number, atoms_of, weights_of, item_of, part_of}
+use Rattle.rules.specs.declared.kind.Kind.{Kind}
+use Rattle.rules.specs.declared.kind.Kind.TheVariants.{Basic as basic, Constraint as constraint, Choice as choice, Weight as weight}
 use Rattle.rules.specs.declared.Item.{Item}
 use Rattle.rules.specs.declared.Item.TheVariants.{Is as item, Nothing as nothing}
 use Rattle.rules.proofs.Members.{index_mem}

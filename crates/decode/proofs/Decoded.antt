@@ -6,7 +6,8 @@ use mathlib.Core.List.{List, [], ◌∷◌, Memᴰ}
 use native.Mathlib.Omega.{arith}
 use lib.ListN.{get_or}
 use Rattle.rules.specs.Limits.{number_most}
-use Rattle.rules.specs.Rule.{Rule, Sheet, SameSet, kind_number, choice, no_rule, atoms_of}
+use Rattle.rules.specs.Rule.{Rule, Sheet, SameSet, no_rule, atoms_of}
+use Rattle.rules.specs.declared.kind.Kind.TheVariants.{Choice as choice}
 use Rattle.rules.proofs.Members.{mem_index}
 use Rattle.numbers.specs.Answer.{span}
 use Rattle.numbers.specs.Shown.Encode.{none}
@@ -50,7 +51,7 @@ module _
     unbound = span 0 rules.next rules.next
 
     abbrev lists : Rule
-    lists = rule_of s (kind_number choice) [] unbound
+    lists = rule_of s choice [] unbound
 
     read : SheetParts s o
     read = parts s o ready.accepted
@@ -62,13 +63,13 @@ module _
     unfolding sheet_meant
     lists_are =
         sym
-        (ap (λ (p : ℕ). rule_of s (kind_number choice) [] (span 0 p p)) wrote.place
+        (ap (λ (p : ℕ). rule_of s choice [] (span 0 p p)) wrote.place
         ∙ (lists_taken s o.atoms o.rules.next o.ins o.outs read.fifth read.sixth).rule)
 
     room : TableRoom c₁ rules.count rules.pair (lists ∷ [])
     room = subst (λ (r : Rule). TableRoom c₁ rules.count rules.pair (r ∷ [])) lists_are wrote.room
 
-    pub lists_ask : RestAsks s (kind_number choice) unbound c₁ rules.count rules.pair rules.pair
+    pub lists_ask : RestAsks s choice unbound c₁ rules.count rules.pair rules.pair
     unfolding number_most rules_size row_width pair_width
     lists_ask =
         let h = room in
@@ -77,7 +78,6 @@ module _
           order = omega arith;
           pairs = omega (arith, h.pairs);
           few = omega (arith, h.few);
-          kind_most = omega arith;
           bound_most = omega arith;
         }
 
@@ -156,7 +156,7 @@ module _
           long = last_long c₁ rules.count rules.pair lists ∙ wrote.long;
         }
 
-    module _ {c₂ : List ℕ} (end : Reached) (put : RestPut s (kind_number choice) unbound c₁ rules.count rules.pair rules.pair 0 c₂ end) where
+    module _ {c₂ : List ℕ} (end : Reached) (put : RestPut s choice unbound c₁ rules.count rules.pair rules.pair 0 c₂ end) where
       put_rule : (c₂ ≡ with_rule c₁ rules.count rules.pair lists) × (end.pair ≡ end_from rules.pair lists)
       put_rule = headless s unbound c₁ rules.count rules.pair end put
 

@@ -11,7 +11,8 @@ use native.Mathlib.Numerals.{add-one}
 use lib.ListN.{length, length-map}
 use lib.Dec.{T}
 use Rattle.rules.specs.Limits.{atoms_most, weight_most}
-use Rattle.rules.specs.Rule.{Rule, Weighted, Kind, Within, chooses, one, ones, atoms_of, weights_of}
+use Rattle.rules.specs.Rule.{Rule, Weighted, Within, chooses, one, ones, atoms_of, weights_of}
+use Rattle.rules.specs.declared.kind.Kind.{Kind}
 use Rattle.numbers.specs.Shown.Encode.{Linked, more, Rises, Rising}
 use Rattle.numbers.proofs.lists.Whole.{rising_few}
 use Rattle.sheet.specs.Shown.Encode.{LightOne, Light}

@@ -9,33 +9,35 @@ mod rows;
 mod words;
 
 use numbers::Span;
+use pairs::Reached;
 use rows::{end_rows, write_rest, write_rules};
-use rules::kind::CHOICE;
-use sheet::Outline;
+use rules::Kind;
+use sheet::{BYTES_MOST, Outline};
+use table::PAIR;
 
-// How many words the table of any sheet needs: two for each byte, and two more.
-pub const WORDS: usize = 131_074;
+// How many words the table of any sheet needs: a pair for each byte, and one more.
+pub const WORDS: usize = PAIR * (BYTES_MOST + 1);
 
 // Most sheets are short: so many bytes, and how many words the table of so short a sheet needs. A table is blank at first, which takes
 // time for each word.
 pub const FEW_BYTES: usize = 1_024;
 
-pub const FEW_WORDS: usize = 2_050;
+pub const FEW_WORDS: usize = PAIR * (FEW_BYTES + 1);
 
 pub const SOME_BYTES: usize = 4_096;
 
-pub const SOME_WORDS: usize = 8_194;
+pub const SOME_WORDS: usize = PAIR * (SOME_BYTES + 1);
 
 pub const MANY_BYTES: usize = 16_384;
 
-pub const MANY_WORDS: usize = 32_770;
+pub const MANY_WORDS: usize = PAIR * (MANY_BYTES + 1);
 
 pub const LARGE_BYTES: usize = 32_768;
 
-pub const LARGE_WORDS: usize = 65_538;
+pub const LARGE_WORDS: usize = PAIR * (LARGE_BYTES + 1);
 
 // How many rules a table holds, and the row of the rule that was asked for.
-#[derive(Clone, Copy)]
+#[derive(Clone, Copy, Debug, PartialEq, Eq)]
 pub struct Table {
     pub rules: usize,
     pub row: usize,
@@ -49,16 +51,24 @@ pub fn decode(s: &[u8], sheet: Outline, wanted: usize, code: &mut [u32]) -> Tabl
     ensures { Decoded s.now sheet wanted code.old code.new result }
 {
     let rules = write_rules(s, sheet, wanted, code);
-    let count = rules.count;
-    let none = Span {
-        value: 0,
-        first: rules.next,
+    let unbound = Span::new(0, rules.next, rules.next);
+    let start = Reached {
+        pair: rules.pair,
         next: rules.next,
+        mark: 0,
     };
-    let lists = write_rest(s, CHOICE, none, code, count, rules.pair, rules.pair, 0);
-    end_rows(code, count + 1, lists.pair);
+    let lists = write_rest(
+        s,
+        Kind::Choice,
+        unbound,
+        code,
+        rules.count,
+        rules.pair,
+        start,
+    );
+    end_rows(code, rules.count + 1, lists.pair);
     Table {
-        rules: count,
+        rules: rules.count,
         row: rules.row,
     }
 }

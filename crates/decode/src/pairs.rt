@@ -1,6 +1,6 @@
-// Lists of atoms and literals, written as pairs of words. A rule's mark goes on from list to list: `before` is that of what was written
-// of the rule before.
-ghost use Rattle.std.specs.Prelude.{◌≤◌, ◌*◌, [], ◌∷◌, length};
+// Lists of atoms and literals, written as pairs of words. A rule's mark goes on from list to list: where writing begins, it is that of what
+// was written of the rule before.
+ghost use Rattle.std.specs.Prelude.{◌+◌, ◌*◌, ◌≤◌, [], ◌∷◌, length};
 ghost use Rattle.rules.specs.Rule.{ones, weighted};
 ghost use Rattle.numbers.specs.Lists.{numbers_from};
 ghost use Rattle.table.specs.Inner.Words.{pair_width};
@@ -13,94 +13,79 @@ use repeats::{carried, mixed};
 use table::PAIR;
 
 // How far writing has come: the pair after what was written, and the place after what was taken from the sheet; and the mark with it.
-#[derive(Clone, Copy)]
+#[derive(Clone, Copy, Debug, PartialEq, Eq)]
 pub(crate) struct Reached {
     pub pair: usize,
     pub next: usize,
     pub mark: usize,
 }
 
-// The place after weights that were taken from the sheet; and the mark with them.
-#[derive(Clone, Copy)]
-pub(crate) struct WeightsEnd {
-    pub next: usize,
-    pub mark: usize,
-}
-
-// One atom with its weight; and the pair after them.
-pub(crate) fn write_pair(code: &mut [u32], j: usize, atom: usize, weight: usize) -> usize
+// One atom with its weight.
+#[tactic(auto, using(crate::proofs::pairs::Laws::pair_put), unfolding(table::specs::Inner::Words::pair_width))]
+fn write_pair(code: &mut [u32], j: usize, atom: usize, weight: usize)
     requires { PairFits code.old j atom weight }
-    ensures { PairsCopied code.old j (weighted atom weight ∷ []) code.new result }
+    ensures { PairsCopied code.old j (weighted atom weight ∷ []) code.new (j + 1) }
 {
     set_word(code, PAIR * j, weight);
     set_word(code, PAIR * j + 1, atom);
-    j + 1
 }
 
-// So many atoms that stand at a place of the sheet, each with weight 1; and the mark with them.
-fn copy_atoms(
-    s: &[u8],
-    count: usize,
-    first: usize,
-    code: &mut [u32],
-    from: usize,
-    before: usize,
-) -> Reached
-    requires { PairsFit code.old from (ones (numbers_from count s.now first)) }
-    ensures { ListCopied code.old from (numbers_from count s.now first) (numbers_past count s.now first) before code.new result }
+// So many atoms, each with weight 1.
+pub(crate) fn copy_atoms(s: &[u8], count: usize, code: &mut [u32], from: Reached) -> Reached
+    requires { PairsFit code.old from.pair (ones (numbers_from count s.now from.next)) }
+    ensures { ListCopied code.old from.pair (numbers_from count s.now from.next) (numbers_past count s.now from.next) from.mark code.new result }
 {
-    let mut at = first;
-    let mut j = from;
-    let mut mark = carried(before);
+    let mut to = Reached {
+        mark: carried(from.mark),
+        ..from
+    };
     for _ in 0..count {
-        let atom = take_number(s, at);
-        j = write_pair(code, j, atom.value, 1);
-        mark = mixed(mark, 0, atom.value);
-        at = atom.next;
+        let atom = take_number(s, to.next);
+        write_pair(code, to.pair, atom.value, 1);
+        to = Reached {
+            pair: to.pair + 1,
+            next: atom.next,
+            mark: mixed(to.mark, 0, atom.value),
+        };
+    }
+    to
+}
+
+// The list that comes next, each atom with weight 1.
+pub(crate) fn copy_list(s: &[u8], code: &mut [u32], from: Reached) -> Reached
+    requires { PairsFit code.old from.pair (ones (list_taken s.now from.next)) }
+    ensures { ListCopied code.old from.pair (list_taken s.now from.next) (list_past s.now from.next) from.mark code.new result }
+{
+    let count = take_number(s, from.next);
+    copy_atoms(
+        s,
+        count.value,
+        code,
+        Reached {
+            next: count.next,
+            ..from
+        },
+    )
+}
+
+// The weights that come next, over those of the pairs before another.
+#[tactic(auto, unfolding(table::specs::Inner::Words::pair_width))]
+pub(crate) fn copy_weights(s: &[u8], code: &mut [u32], from: Reached, to: usize) -> Reached
+    requires order { from.pair ≤ to }
+    requires room { pair_width * to ≤ length code.old }
+    ensures { WeightsCopied s.now from.next code.old from.pair to from.mark code.new result }
+{
+    let mut next = from.next;
+    let mut mark = carried(from.mark);
+    for j in from.pair..to {
+        let weight = take_number(s, next);
+        set_word(code, PAIR * j, weight.value);
+        mark = mixed(mark, j - from.pair, weight.value);
+        next = weight.next;
     }
     Reached {
-        pair: j,
-        next: at,
+        pair: to,
+        next,
         mark,
     }
-}
-
-// The list at a place of the sheet, each atom with weight 1; and the mark with them.
-pub(crate) fn copy_list(
-    s: &[u8],
-    at: usize,
-    code: &mut [u32],
-    from: usize,
-    before: usize,
-) -> Reached
-    requires { PairsFit code.old from (ones (list_taken s.now at)) }
-    ensures { ListCopied code.old from (list_taken s.now at) (list_past s.now at) before code.new result }
-{
-    let count = take_number(s, at);
-    copy_atoms(s, count.value, count.next, code, from, before)
-}
-
-// The weights that stand at a place of the sheet, over those of the pairs from one to before another; and the mark with them.
-pub(crate) fn copy_weights(
-    s: &[u8],
-    first: usize,
-    code: &mut [u32],
-    from: usize,
-    to: usize,
-    before: usize,
-) -> WeightsEnd
-    requires { (from ≤ to) × (pair_width * to ≤ length code.old) }
-    ensures { WeightsCopied s.now first code.old from to before code.new result }
-{
-    let mut at = first;
-    let mut j = from;
-    let mut mark = carried(before);
-    while j < to {
-        let weight = take_number(s, at);
-        set_word(code, PAIR * j, weight.value);
-        mark = mixed(mark, j - from, weight.value);
-        at = weight.next;
-        j += 1;
-    }
-    WeightsEnd { next: at, mark }
 }

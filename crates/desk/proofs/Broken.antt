@@ -39,21 +39,14 @@ use Rattle.sheet.specs.Sheet.{edition_at, tail_at, rest_at, whole_at, sheet_read
 use Rattle.sheet.specs.RuleMeaning.{paired, rule_meant}
 use Rattle.sheet.specs.Meaning.{rules_from, sheet_meant, sheet_of, accepted}
 use Rattle.sheet.specs.declared.Outline.{Outline}
-use Rattle.sheet.specs.declared.SheetRead.TheVariants.{Accepted}
 use Rattle.sheet.proofs.sheet.Ran.{sheet_ran}
 use Rattle.sheet.proofs.Accepted.{outlined}
 use Rattle.gate.specs.Scan.{is_contradiction}
 use Rattle.gate.specs.Gate.{open_gate, pin_gate, solve_gate, is_pin}
-use Rattle.gate.specs.declared.Task.TheVariants.{Stay, Open, Pin, Solve}
-use Rattle.gate.specs.declared.Gate.{Gate}
-use Rattle.gate.specs.declared.Gate.TheVariants.{Go}
 use Rattle.gate.proofs.Calls.{Lent, opens_through, solves_through, pins_through}
 use Rattle.gate.proofs.scan.Maps.{map_none, map_stands}
 use Rattle.desk.specs.Promise.{Upon, Checks, Opens, Pins, Solves, Ends, PinAsks, PinEnds, SolveEnds}
 use Rattle.desk.specs.Shown.Wrong.{Version, Call, check_call, open_call, pin_call, solve_call, Keeps, Leaves, Miscounts, Wrong, refuses_all, always_none, open_forces_nothing, pin_forces_nothing, pin_leaves_map, open_guesses, open_miscounts, pin_miscounts, filled, put_at, put_all, listed, lazy, eager}
-use Rattle.desk.specs.declared.Checked.TheVariants.{Accepted as AcceptedSheet, Refused as RefusedSheet}
-use Rattle.desk.specs.declared.Opened.{Opened}
-use Rattle.desk.specs.declared.Opened.TheVariants.{Closed as ClosedWith, Contradiction as Contradicted, Refused as RefusedMap}
 use Rattle.desk.specs.declared.Solved.TheVariants.{Model as ModelFound, NoModel as NoneFound}
 use Rattle.desk.proofs.calls.Laws.{upon_go, checks_accepted}
 use Rattle.desk.proofs.Tight.{checks_tight, opens_tight, pins_tight, solves_tight}
@@ -90,7 +83,7 @@ unfolding tally has value side those grow closing taking opening lowest searchin
 pin_case = case_proved _ tt
 
 -- each call goes on
-outline : (o : Outline) × (sheet_read written ≡ Accepted o) × (sheet_meant written o ≡ small)
+outline : (o : Outline) × (sheet_read written ≡ Ok o) × (sheet_meant written o ≡ small)
 outline = outlined written small reads
 
 abbrev o : Outline
@@ -109,13 +102,13 @@ small_bytes (suc zero) h = omega arith
 small_bytes (suc (suc zero)) h = omega arith
 small_bytes (suc (suc (suc i))) h = absurd (omega (arith, three, h))
 
-open_on : open_gate written blank ≡ Go o Open
-open_on = opens_through (lent blank refl)
+open_on : room_gate written blank ≡ Ok o
+open_on = room_through (lent blank refl)
 
-solve_on : solve_gate written blank ≡ Go o Solve
-solve_on = solves_through (lent blank refl)
+solve_on : room_gate written blank ≡ Ok o
+solve_on = room_through (lent blank refl)
 
-pin_on : pin_gate written after_open 2 1 ≡ Go o (Pin (record { number = 2 }) true)
+pin_on : pin_gate written after_open 2 1 ≡ Ok o
 unfolding pick
 pin_on =
     pins_through
@@ -136,29 +129,29 @@ check_right =
     (ap₂ AcceptedSheet three (sym (sheet_ran written o outline.1).count ∙ ap (λ (x : Sheet). length x.rules) outline.2))
     (checks_accepted written o outline.1)
 
-open_right : Opens written blank after_open (ClosedWith 2)
+open_right : Opens written blank after_open (Ok (Some 2))
 unfolding undecided tally
 open_right =
     record {
       promise =
           upon_go written _ _ open_on
           (subst
-          (λ (x : Sheet). Ends x (Holding (computed x)) blank after_open (ClosedWith 2))
+          (λ (x : Sheet). Ends x (Holding (computed x)) blank after_open (Ok (Some 2)))
           (sym outline.2)
           (record { least = open_case.map; open' = refl; written = record { long = refl; past = refl } }));
     }
 
-pin_right : Pins written after_open 2 1 after_pin (ClosedWith 0)
+pin_right : Pins written after_open 2 1 after_pin (Ok (Some 0))
 unfolding undecided tally
 pin_right =
     record {
       promise =
           upon_go written _ _ pin_on
           (subst
-          (λ (x : Sheet). PinEnds (is_contradiction x.atoms after_open) x after_open 2 1 after_pin (ClosedWith 0))
+          (λ (x : Sheet). PinEnds (is_contradiction x.atoms after_open) x after_open 2 1 after_pin (Ok (Some 0)))
           (sym outline.2)
           (subst
-          (λ (b : Bool). PinEnds b small after_open 2 1 after_pin (ClosedWith 0))
+          (λ (b : Bool). PinEnds b small after_open 2 1 after_pin (Ok (Some 0)))
           (sym (map_stands 3 after_open (λ i h. small_bytes i (omega (arith, three, h)))))
           (record {
             least =
@@ -239,7 +232,7 @@ unfolding side undecided tally sheet_meant
 wrong_breaks v _ (refuses_all w) k =
     differ (sym (w written written_bytes).1 ∙ checks_tight written _ _ (k written written_bytes) check_right)
   where
-    differ : {why : Refusal} → RefusedSheet why ≡ AcceptedSheet 3 3 → ⊥
+    differ : {why : Refusal} → Err why ≡ AcceptedSheet 3 3 → ⊥
     differ e = let clash : ◌≡◌ {A = ℕ} 0 1 = cc in omega arith
 wrong_breaks v _ (always_none w) k =
     w written blank written_bytes blank_bytes
@@ -274,7 +267,7 @@ wrong_breaks v _ (open_miscounts s m y is is' (t, g) w) k =
     m
     (v.open' s m)
     (subst
-    (λ (x : Gate). Upon s x (λ why. ((v.open' s m).answer ≡ RefusedMap why) × ((v.open' s m).map ≡ m)) (λ z. Ends z (Holding (computed z)) m (v.open' s m).map (v.open' s m).answer))
+    (λ (x : (Result Outline Refusal)). Upon s x (λ why. ((v.open' s m).answer ≡ Err why) × ((v.open' s m).map ≡ m)) (λ z. Ends z (Holding (computed z)) m (v.open' s m).map (v.open' s m).answer))
     g
     (k s m is is').promise)
     w
@@ -282,14 +275,14 @@ wrong_breaks v _ (pin_miscounts s m a d y is is' wa wd (t, g) w) k =
     ended
     (is_contradiction y.atoms m)
     (subst
-    (λ (x : Gate). Upon s x (λ why. ((v.pin s m a d).answer ≡ RefusedMap why) × ((v.pin s m a d).map ≡ m)) (λ z. PinEnds (is_contradiction z.atoms m) z m a d (v.pin s m a d).map (v.pin s m a d).answer))
+    (λ (x : (Result Outline Refusal)). Upon s x (λ why. ((v.pin s m a d).answer ≡ Err why) × ((v.pin s m a d).map ≡ m)) (λ z. PinEnds (is_contradiction z.atoms m) z m a d (v.pin s m a d).map (v.pin s m a d).answer))
     g
     (k s m a d is is' wa wd).promise)
   where
     ended : (b : Bool) → PinEnds b (sheet_meant s y) m a d (v.pin s m a d).map (v.pin s m a d).answer → ⊥
     ended true e = differ (sym e.0 ∙ w.says)
       where
-        differ : Contradicted ≡ ClosedWith w.count → ⊥
+        differ : contradicted ≡ closed_with w.count → ⊥
         differ q = let clash : ◌≡◌ {A = ℕ} 0 1 = cc in omega arith
     ended false e = ends_count (sheet_meant s y) (PinAsks (sheet_meant s y) m a d) m (v.pin s m a d) e w
 
@@ -365,7 +358,7 @@ pub lazy_open : Wrong lazy open_call
 lazy_open =
     open_forces_nothing
     (λ s m y is is' g a b e.
-    subst (λ (x : Gate). Memᴰ (signed b a) (listed s x)) g.1 (put_all_decides y.atoms m (listed s (open_gate s m)) a b e))
+    subst (λ (x : (Result Outline Refusal)). Memᴰ (signed b a) (listed s x)) g.1 (put_all_decides y.atoms m (listed s (room_gate s m)) a b e))
 
 pub lazy_pin : Wrong lazy pin_call
 lazy_pin = pin_forces_nothing (λ s m x d y is is' g a b e. put_decides y.atoms m x (eqb d 1) a b e)
@@ -389,7 +382,7 @@ lazy_open_count =
     (record {
       count = 9;
       says = refl;
-      not = λ e. absurd (nine (e ∙ ap₂ (λ (x : ℕ) (g : Gate). undecided x (put_all blank (listed written g))) three open_on ∙ ap (λ (x : Sheet). undecided 3 (put_all blank (computed x))) outline.2));
+      not = λ e. absurd (nine (e ∙ ap₂ (λ (x : ℕ) (g : (Result Outline Refusal)). undecided x (put_all blank (listed written g))) three open_on ∙ ap (λ (x : Sheet). undecided 3 (put_all blank (computed x))) outline.2));
     })
   where
     nine : ◌≡◌ {A = ℕ} 9 3 → ⊥

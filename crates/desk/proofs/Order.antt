@@ -25,36 +25,30 @@ use Rattle.numbers.specs.declared.Refusal.{Refusal}
 use Rattle.sheet.specs.Sheet.{sheet_read}
 use Rattle.sheet.specs.Meaning.{sheet_meant}
 use Rattle.sheet.specs.declared.Outline.{Outline}
-use Rattle.sheet.specs.declared.SheetRead.TheVariants.{Accepted}
 use Rattle.sheet.proofs.Accepted.{outlined, numbered}
 use Rattle.gate.specs.Scan.{is_contradiction, map_fault}
 use Rattle.gate.specs.Gate.{is_pin, pin_gate}
-use Rattle.gate.specs.declared.Task.{Task}
-use Rattle.gate.specs.declared.Gate.{Gate}
-use Rattle.gate.specs.declared.Gate.TheVariants.{Go}
 use Rattle.gate.proofs.Calls.{pin_through, opens_through, pins_through, pins_barred}
 use Rattle.gate.proofs.scan.Maps.{map_none, map_stands, threes_map, threes_contradict}
 use Rattle.desk.specs.Promise.{Upon, Opens, Pins, Ends, PinAsks, PinEnds, threes}
 use Rattle.desk.specs.Run.{Pin, accepted_of, latest, PinCalls, done, next, Run}
-use Rattle.desk.specs.declared.Opened.{Opened}
-use Rattle.desk.specs.declared.Opened.TheVariants.{Closed as ClosedWith, Contradiction as Contradicted, Refused as RefusedMap}
 use Rattle.desk.proofs.hand.Laws.{threes_are}
 use Rattle.desk.proofs.Tight.{ends_alike, ends_written, ends_tight}
 
 -- a promise whose gate is known
-through : (s : List ℕ) (A : Refusal → Type 0) (B : Sheet → Type 0) {g h : Gate} → g ≡ h → Upon s g A B → Upon s h A B
-through s A B e p = subst (λ (x : Gate). Upon s x A B) e p
+through : (s : List ℕ) (A : Refusal → Type 0) (B : Sheet → Type 0) {g h : (Result Outline Refusal)} → g ≡ h → Upon s g A B → Upon s h A B
+through s A B e p = subst (λ (x : (Result Outline Refusal)). Upon s x A B) e p
 
 -- the end of one question is that of another, where the two ask the same
 asks_same :
     (sh : Sheet) (Q Q' : Map → Type 0) (m m' : List ℕ) (r : Opened) → ((X : Map) → Q X → Q' X) → ((X : Map) → Q' X → Q X)
     → Ends sh Q m m' r → Ends sh Q' m m' r
-asks_same sh Q Q' m m' (ClosedWith k) onto back e =
+asks_same sh Q Q' m m' (Ok (Some k)) onto back e =
     record { least = least_same Q Q' onto back e.least; open' = e.open'; written = e.written }
-asks_same sh Q Q' m m' Contradicted onto back e = record { none = contradiction_same Q Q' back e.none; bytes = e.bytes }
-asks_same sh Q Q' m m' (RefusedMap why) onto back e = absurd e
+asks_same sh Q Q' m m' (Ok None) onto back e = record { none = contradiction_same Q Q' back e.none; bytes = e.bytes }
+asks_same sh Q Q' m m' (Err why) onto back e = absurd e
 
-module _ (s : List ℕ) (o : Outline) (is : sheet_read s ≡ Accepted o) (l : List ℕ) (enough : o.atoms ≤ length l) where
+module _ (s : List ℕ) (o : Outline) (is : sheet_read s ≡ Ok o) (l : List ℕ) (enough : o.atoms ≤ length l) where
   abbrev sh : Sheet
   sh = sheet_meant s o
 
@@ -78,9 +72,9 @@ module _ (s : List ℕ) (o : Outline) (is : sheet_read s ≡ Accepted o) (l : Li
       (λ X h. holding_left X (computed sh) [] h)
       (through
       s
-      (λ why. (r ≡ RefusedMap why) × (m ≡ l))
+      (λ why. (r ≡ Err why) × (m ≡ l))
       (λ x. Ends x (Holding (computed x)) l m r)
-      (opens_through (record { accepted = is; room = enough }))
+      (room_through (record { accepted = is; room = enough }))
       p.promise)
 
   state_room : (ps : List Literal) (m : List ℕ) (r : Opened) → State ps m r → n ≤ length m
@@ -99,10 +93,10 @@ module _ (s : List ℕ) (o : Outline) (is : sheet_read s ≡ Accepted o) (l : Li
         (m' : List ℕ) (r r₁ : Opened) → State ps m r → passes ≡ false → Pins s m a v m' r₁ → State ps m' (latest r r₁)
     refused_pin m' r r₁ st e q =
         let
-        stop : (r₁ ≡ RefusedMap (refusal 11 0)) × (m' ≡ m)
+        stop : (r₁ ≡ Err (refusal 11 0)) × (m' ≡ m)
         = through
         s
-        (λ why. (r₁ ≡ RefusedMap why) × (m' ≡ m))
+        (λ why. (r₁ ≡ Err why) × (m' ≡ m))
         (λ x. PinEnds (is_contradiction x.atoms m) x m a v m' r₁)
         (pins_barred (record { accepted = is; room = state_room ps m r st }) a v e)
         q.promise
@@ -117,7 +111,7 @@ module _ (s : List ℕ) (o : Outline) (is : sheet_read s ≡ Accepted o) (l : Li
     accepted_pin m' r₁ room e f q =
         through
         s
-        (λ why. (r₁ ≡ RefusedMap why) × (m' ≡ m))
+        (λ why. (r₁ ≡ Err why) × (m' ≡ m))
         (λ x. PinEnds (is_contradiction x.atoms m) x m a v m' r₁)
         (pins_through (record { accepted = is; room = room }) a v e f)
         q.promise
@@ -145,44 +139,44 @@ module _ (s : List ℕ) (o : Outline) (is : sheet_read s ≡ Accepted o) (l : Li
 
     -- a pin's question, on the least map that holds the pins before it, is that of all these pins
     pinned_on :
-        (k : ℕ) (m' : List ℕ) (r r₁ : Opened) → State ps m (ClosedWith k) → Ends sh (PinAsks sh m a v) m m' r₁
+        (k : ℕ) (m' : List ℕ) (r r₁ : Opened) → State ps m (Ok (Some k)) → Ends sh (PinAsks sh m a v) m m' r₁
         → State (ps ++ (p ∷ [])) m' (latest r r₁)
     unfolding sheet_meant
-    pinned_on k m' r (ClosedWith j) st e =
+    pinned_on k m' r (Ok (Some j)) st e =
         record {
           least = least_same _ (Pinned sh (ps ++ (p ∷ []))) onto back (pins_after (computed sh ++ ps) (p ∷ []) st.least e.least);
           open' = e.open';
           written = written_trans st.written e.written;
         }
-    pinned_on k m' r Contradicted st e =
+    pinned_on k m' r (Ok None) st e =
         record {
           none =
               contradiction_same _ (Pinned sh (ps ++ (p ∷ []))) back (contradiction_after (computed sh ++ ps) (p ∷ []) st.least e.none);
           bytes = e.bytes ∙ ap (λ (past : List ℕ). replicate n 3 ++ past) st.written.past;
         }
-    pinned_on k m' r (RefusedMap why) st e = absurd e
+    pinned_on k m' r (Err why) st e = absurd e
 
     next_state :
         (m' : List ℕ) (r r₁ : Opened) → State ps m r → passes ≡ true → Pins s m a v m' r₁ → State (ps ++ (p ∷ [])) m' (latest r r₁)
     unfolding sheet_meant
-    next_state m' (ClosedWith k) r₁ st e q =
+    next_state m' (Ok (Some k)) r₁ st e q =
         let small = map_side n m st.least.closed.is_map in
-        pinned_on k m' (ClosedWith k) r₁ st
+        pinned_on k m' (Ok (Some k)) r₁ st
         (subst
         (λ (b : Bool). PinEnds b sh m a v m' r₁)
         (map_stands n m small)
-        (accepted_pin m' r₁ (state_room ps m (ClosedWith k) st) e (map_none n m small) q))
-    next_state m' Contradicted r₁ st e q =
+        (accepted_pin m' r₁ (state_room ps m (Ok (Some k)) st) e (map_none n m small) q))
+    next_state m' (Ok None) r₁ st e q =
         let
-        end : (r₁ ≡ Contradicted) × (m' ≡ m)
+        end : (r₁ ≡ contradicted) × (m' ≡ m)
         = subst
         (λ (b : Bool). PinEnds b sh m a v m' r₁)
         (threes_contradict n m some all)
-        (accepted_pin m' r₁ (state_room ps m Contradicted st) e (threes_map n m some all) q)
+        (accepted_pin m' r₁ (state_room ps m contradicted st) e (threes_map n m some all) q)
         in
         subst
         (State (ps ++ (p ∷ [])) m')
-        (sym (ap (latest Contradicted) end.0))
+        (sym (ap (latest contradicted) end.0))
         (record {
           none =
               contradiction_same
@@ -199,7 +193,7 @@ module _ (s : List ℕ) (o : Outline) (is : sheet_read s ≡ Accepted o) (l : Li
 
         all : (i : ℕ) → i < n → get_or m i 0 ≡ 3
         all i h = ap (λ (x : List ℕ). get_or x i 0) st.bytes ∙ threes_are n l i h
-    next_state m' (RefusedMap why) r₁ st e q = absurd st
+    next_state m' (Err why) r₁ st e q = absurd st
 
   -- a run of pins keeps the state
   pinned_state :
@@ -242,7 +236,7 @@ run_final {s} {sh} {ps} {m} {r} run =
     (of o is (subst (λ (x : Sheet). x.atoms ≤ length run.lent) (sym e) run.room))
   where
     of :
-        (o : Outline) → sheet_read s ≡ Accepted o → o.atoms ≤ length run.lent
+        (o : Outline) → sheet_read s ≡ Ok o → o.atoms ≤ length run.lent
         → Ends (sheet_meant s o) (Pinned (sheet_meant s o) (accepted_of o.atoms ps)) run.lent m r
     of o is room =
         pinned_state s o is run.lent room [] (opened_state s o is run.lent room run.opened run.answer run.opens) run.pins
@@ -251,7 +245,7 @@ run_final {s} {sh} {ps} {m} {r} run =
 ends_shuffled :
     {sh sh' : Sheet} → Shuffled sh sh' → {ps ps' : List Literal} → SameSet ps ps' → (m m' : List ℕ) (r : Opened)
     → Ends sh (Pinned sh ps) m m' r → Ends sh' (Pinned sh' ps') m m' r
-ends_shuffled {sh} {sh'} k {ps} {ps'} same m m' (ClosedWith j) e =
+ends_shuffled {sh} {sh'} k {ps} {ps'} same m m' (Ok (Some j)) e =
     record {
       least =
           subst
@@ -261,9 +255,9 @@ ends_shuffled {sh} {sh'} k {ps} {ps'} same m m' (ClosedWith j) e =
       open' = e.open' ∙ ap (λ (x : ℕ). undecided x m') k.atoms;
       written = subst (λ (x : ℕ). Written x m m') k.atoms e.written;
     }
-ends_shuffled k same m m' Contradicted e =
+ends_shuffled k same m m' (Ok None) e =
     record { none = contradiction_shuffled k same e.none; bytes = e.bytes ∙ ap (λ (x : ℕ). threes x m) k.atoms }
-ends_shuffled k same m m' (RefusedMap why) e = absurd e
+ends_shuffled k same m m' (Err why) e = absurd e
 
 -- demand 3
 module _
@@ -318,7 +312,7 @@ module _
 pub loses_no_model :
     {s : List ℕ} {sh : Sheet} {ps : List Pin} {m : List ℕ} {r : Opened} → Run s sh ps m r → (S : Set) → Model sh S
     → Holding (accepted_of sh.atoms ps) (total sh.atoms S)
-    → (r ≡ ClosedWith (undecided sh.atoms m)) × (side sh.atoms m ⊑ total sh.atoms S)
+    → (r ≡ closed_with (undecided sh.atoms m)) × (side sh.atoms m ⊑ total sh.atoms S)
 loses_no_model {s = s} {sh = sh} {ps = ps} {m = m} {r = r} run S md h = step r (run_final run)
   where
     ok : Numbered sh
@@ -326,16 +320,16 @@ loses_no_model {s = s} {sh = sh} {ps = ps} {m = m} {r = r} run S md h = step r (
 
     step :
         (r : Opened) → Ends sh (Pinned sh (accepted_of sh.atoms ps)) run.lent m r
-        → (r ≡ ClosedWith (undecided sh.atoms m)) × (side sh.atoms m ⊑ total sh.atoms S)
-    step (ClosedWith k) e = (ap ClosedWith e.open', loses_none ok (accepted_of sh.atoms ps) e.least md h)
-    step Contradicted e = absurd (none_lost ok (accepted_of sh.atoms ps) e.none md h)
-    step (RefusedMap why) e = absurd e
+        → (r ≡ closed_with (undecided sh.atoms m)) × (side sh.atoms m ⊑ total sh.atoms S)
+    step (Ok (Some k)) e = (ap closed_with e.open', loses_none ok (accepted_of sh.atoms ps) e.least md h)
+    step (Ok None) e = absurd (none_lost ok (accepted_of sh.atoms ps) e.none md h)
+    step (Err why) e = absurd e
 
 -- "A pin already held on a closed map changes nothing."
 pub held_pin :
-    (s m m' : List ℕ) (a v : ℕ) (r : Opened) (o : Outline) (t : Task) → pin_gate s m a v ≡ Go o t
+    (s m m' : List ℕ) (a v : ℕ) (r : Opened) (o : Outline) (t : Task) → pin_gate s m a v ≡ Ok o
     → Closed (sheet_meant s o).rules o.atoms (side o.atoms m) → Holding (signed (eqb v 1) a ∷ []) (side o.atoms m)
-    → Pins s m a v m' r → (r ≡ ClosedWith (undecided o.atoms m)) × (m' ≡ m)
+    → Pins s m a v m' r → (r ≡ closed_with (undecided o.atoms m)) × (m' ≡ m)
 unfolding sheet_meant
 held_pin s m m' a v r o t g c h q =
     ends_tight
@@ -345,14 +339,14 @@ held_pin s m m' a v r o t g c h q =
     m'
     m
     r
-    (ClosedWith (undecided o.atoms m))
+    (closed_with (undecided o.atoms m))
     (pin_through s m a v g).lent.room
     (subst
     (λ (b : Bool). PinEnds b sh m a v m' r)
     (map_stands o.atoms m (map_side o.atoms m c.is_map))
     (through
     s
-    (λ why. (r ≡ RefusedMap why) × (m' ≡ m))
+    (λ why. (r ≡ Err why) × (m' ≡ m))
     (λ x. PinEnds (is_contradiction x.atoms m) x m a v m' r)
     g
     q.promise))

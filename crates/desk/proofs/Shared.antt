@@ -12,17 +12,13 @@ use Rattle.rules.proofs.Models.{shared_none, shared_clash}
 use Rattle.sheet.specs.Sheet.{sheet_read}
 use Rattle.sheet.specs.Meaning.{sheet_meant}
 use Rattle.sheet.specs.declared.Outline.{Outline}
-use Rattle.sheet.specs.declared.SheetRead.TheVariants.{Accepted}
-use Rattle.gate.specs.declared.Gate.{Gate}
 use Rattle.gate.proofs.Calls.{opens_through, solves_through}
 use Rattle.desk.specs.Promise.{Upon, Ends, Opens, SolveEnds, Solves, threes}
-use Rattle.desk.specs.declared.Opened.{Opened}
-use Rattle.desk.specs.declared.Opened.TheVariants.{Closed as ClosedWith, Contradiction as Contradicted, Refused as RefusedMap}
 use Rattle.desk.specs.declared.Solved.{Solved}
-use Rattle.desk.specs.declared.Solved.TheVariants.{Model as ModelFound, NoModel as NoneFound, Refused as RefusedSolve}
+use Rattle.desk.specs.declared.Solved.TheVariants.{Model as ModelFound, NoModel as NoneFound}
 
 module _
-    (s : List ℕ) (o : Outline) (accepted : sheet_read s ≡ Accepted o) (m : List ℕ) (room : Room o.atoms m) (a : ℕ)
+    (s : List ℕ) (o : Outline) (accepted : sheet_read s ≡ Ok o) (m : List ℕ) (room : Room o.atoms m) (a : ℕ)
     (ins : T (has a (sheet_meant s o).compute_in)) (outs : T (has a (sheet_meant s o).compute_out))
   where
     abbrev sh : Sheet
@@ -34,27 +30,27 @@ module _
         by
         r
         (subst
-        (λ (g : Gate). Upon s g (λ why. (r ≡ RefusedSolve why) × (m' ≡ m)) (λ x. SolveEnds x m m' r))
-        (solves_through (record { accepted = accepted; room = room }))
+        (λ (g : (Result Outline Refusal)). Upon s g (λ why. (r ≡ Err why) × (m' ≡ m)) (λ x. SolveEnds x m m' r))
+        (room_through (record { accepted = accepted; room = room }))
         p.promise)
       where
         by : (q : Solved) → SolveEnds sh m m' q → (q ≡ NoneFound) × (m' ≡ threes o.atoms m)
         by ModelFound e = absurd (shared_none sh a ins outs _ e.first.is)
         by NoneFound e = (refl, e.1)
-        by (RefusedSolve why) e = absurd e
+        by (Err why) e = absurd e
 
-    pub shared_open : {m' : List ℕ} {r : Opened} → Opens s m m' r → (r ≡ Contradicted) × (m' ≡ threes o.atoms m)
+    pub shared_open : {m' : List ℕ} {r : Opened} → Opens s m m' r → (r ≡ contradicted) × (m' ≡ threes o.atoms m)
     unfolding sheet_meant
     shared_open {m'} {r} p =
         by
         r
         (subst
-        (λ (g : Gate). Upon s g (λ why. (r ≡ RefusedMap why) × (m' ≡ m)) (λ x. Ends x (Holding (computed x)) m m' r))
-        (opens_through (record { accepted = accepted; room = room }))
+        (λ (g : (Result Outline Refusal)). Upon s g (λ why. (r ≡ Err why) × (m' ≡ m)) (λ x. Ends x (Holding (computed x)) m m' r))
+        (room_through (record { accepted = accepted; room = room }))
         p.promise)
       where
-        by : (q : Opened) → Ends sh (Holding (computed sh)) m m' q → (q ≡ Contradicted) × (m' ≡ threes o.atoms m)
-        by (ClosedWith k) e =
+        by : (q : Opened) → Ends sh (Holding (computed sh)) m m' q → (q ≡ contradicted) × (m' ≡ threes o.atoms m)
+        by (Ok (Some k)) e =
             absurd (shared_clash sh a ins outs (Closed sh.rules sh.atoms) _ e.least.closed e.least.holding)
-        by Contradicted e = (refl, e.bytes)
-        by (RefusedMap why) e = absurd e
+        by (Ok None) e = (refl, e.bytes)
+        by (Err why) e = absurd e

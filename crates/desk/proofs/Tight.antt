@@ -26,21 +26,12 @@ use Rattle.sheet.proofs.Accepted.{numbered}
 use Rattle.sheet.proofs.sheet.Written.{meant}
 use Rattle.gate.specs.Scan.{is_contradiction}
 use Rattle.gate.specs.Gate.{sheet_gate, open_gate, solve_gate, test_gate, pin_gate, margin_gate, part_gate}
-use Rattle.gate.specs.declared.Task.{Task}
-use Rattle.gate.specs.declared.Task.TheVariants.{Stay}
-use Rattle.gate.specs.declared.Gate.{Gate}
-use Rattle.gate.specs.declared.Gate.TheVariants.{Stop, Go}
 use Rattle.gate.proofs.Calls.{Lent, open_goes, solve_goes, pin_through}
 use Rattle.desk.specs.Promise.{Upon, Checks, Parts, Opens, Pins, Solves, Tests, Margins, Ends, PinAsks, PinEnds, SolveEnds, TestEnds}
-use Rattle.desk.specs.declared.Checked.{Checked}
-use Rattle.desk.specs.declared.PartRead.{PartRead}
-use Rattle.desk.specs.declared.Opened.{Opened}
-use Rattle.desk.specs.declared.Opened.TheVariants.{Closed as ClosedWith, Contradiction as Contradicted, Refused as RefusedMap}
 use Rattle.desk.specs.declared.Solved.{Solved}
-use Rattle.desk.specs.declared.Solved.TheVariants.{Model as ModelFound, NoModel as NoneFound, Refused as RefusedSolve}
+use Rattle.desk.specs.declared.Solved.TheVariants.{Model as ModelFound, NoModel as NoneFound}
 use Rattle.desk.specs.declared.Tested.{Tested}
-use Rattle.desk.specs.declared.Tested.TheVariants.{Stable as IsStable, NotStable, Refused as RefusedTest}
-use Rattle.desk.specs.declared.MarginRead.{MarginRead}
+use Rattle.desk.specs.declared.Tested.TheVariants.{Stable as IsStable, NotStable}
 use Rattle.desk.proofs.hand.Laws.{threes_are, threes_written}
 
 -- both answers and both lists of bytes are equal
@@ -51,18 +42,18 @@ both : {A : Type 0} {x : A} {y : List ℕ} (r r' : A) (m m' : List ℕ) → (r �
 both r r' m m' e e' = (fixed r r' e.0 e'.0, fixed m m' e.1 e'.1)
 
 -- the sheet with which a gate lets a call go on
-pub record On (s : List ℕ) (g : Gate) (sh : Sheet) : Type 0 where
+pub record On (s : List ℕ) (g : (Result Outline Refusal)) (sh : Sheet) : Type 0 where
   pub outline : Outline
   pub task : Task
-  pub goes : g ≡ Go outline task
+  pub goes : g ≡ Ok outline
   pub means : sheet_meant s outline ≡ sh
 
 -- by the gate: the two promises are compared where the call is stopped, and where it goes on
 pub upon_both :
-    (s : List ℕ) (g : Gate) {A A' : Refusal → Type 0} {B B' : Sheet → Type 0} {C : Type 0} → ((why : Refusal) → A why → A' why → C)
+    (s : List ℕ) (g : (Result Outline Refusal)) {A A' : Refusal → Type 0} {B B' : Sheet → Type 0} {C : Type 0} → ((why : Refusal) → A why → A' why → C)
     → ((sh : Sheet) → On s g sh → B sh → B' sh → C) → Upon s g A B → Upon s g A' B' → C
-upon_both s (Stop why) f h p p' = f why p p'
-upon_both s (Go o t) f h p p' = h (sheet_meant s o) (record { outline = o; task = t; goes = refl; means = refl }) p p'
+upon_both s (Err why) f h p p' = f why p p'
+upon_both s (Ok o) f h p p' = h (sheet_meant s o) (record { outline = o; task = t; goes = refl; means = refl }) p p'
 
 -- a byte that is 1 or 2 is known by whether it is 1
 whole_same : (x y : ℕ) → Within 2 x → Within 2 y → eqb x 1 ≡ eqb y 1 → x ≡ y
@@ -82,11 +73,11 @@ whole_same x y p q e = step (decided (eqb x 1))
 
 pub checks_tight : (s : List ℕ) (r r' : Checked) → Checks s r → Checks s r' → r ≡ r'
 checks_tight s r r' p p' =
-    upon_both s (sheet_gate s Stay) (λ why. fixed r r') (λ sh on. fixed r r') p.promise p'.promise
+    upon_both s (sheet_read s) (λ why. fixed r r') (λ sh on. fixed r r') p.promise p'.promise
 
 pub parts_tight : (s : List ℕ) (k p i : ℕ) (r r' : PartRead) → Parts s k p i r → Parts s k p i r' → r ≡ r'
 parts_tight s k p i r r' q q' =
-    upon_both s (part_gate s k p i) (λ why. fixed r r') (λ sh on. fixed r r') q.promise q'.promise
+    upon_both s (part_gate s k) (λ why. fixed r r') (λ sh on. fixed r r') q.promise q'.promise
 
 pub margins_tight : (s m : List ℕ) (k : ℕ) (r r' : MarginRead) → Margins s m k r → Margins s m k r' → r ≡ r'
 margins_tight s m k r r' p p' =
@@ -94,7 +85,7 @@ margins_tight s m k r r' p p' =
 
 -- the sheet was accepted, and the lent map is long enough
 on_lent :
-    {s m : List ℕ} {g : Gate} {sh : Sheet} → ((o : Outline) (t : Task) → g ≡ Go o t → Lent s m o) → On s g sh
+    {s m : List ℕ} {g : (Result Outline Refusal)} {sh : Sheet} → ((o : Outline) (t : Task) → g ≡ Ok o → Lent s m o) → On s g sh
     → (sheet_of s ≡ accepted sh) × Room sh.atoms m
 unfolding sheet_meant
 on_lent {s} {m} f on =
@@ -112,27 +103,27 @@ module _ (sh : Sheet) (Q : Map → Type 0) where
 
   pub ends_alike :
       (m l m' l' : List ℕ) (r q : Opened) → Room n m → Room n l → Ends sh Q m m' r → Ends sh Q l l' q → (r ≡ q) × Agree n m' l'
-  ends_alike m l m' l' (ClosedWith k) (ClosedWith k') room room' e e' =
-      (ap ClosedWith (e.open' ∙ undecided_same n m' l' (omega (arith, e.written.long, room)) (omega (arith, e'.written.long, room')) bytes ∙ sym e'.open'), bytes)
+  ends_alike m l m' l' (Ok (Some k)) (Ok (Some k')) room room' e e' =
+      (ap closed_with (e.open' ∙ undecided_same n m' l' (omega (arith, e.written.long, room)) (omega (arith, e'.written.long, room')) bytes ∙ sym e'.open'), bytes)
     where
       bytes : Agree n m' l'
       bytes = side_bytes n m' l' (least_unique e.least e'.least)
-  ends_alike m l m' l' (ClosedWith k) Contradicted room room' e e' = absurd (least_or_contradiction e.least e'.none)
-  ends_alike m l m' l' (ClosedWith k) (RefusedMap why) room room' e e' = absurd e'
-  ends_alike m l m' l' Contradicted (ClosedWith k) room room' e e' = absurd (least_or_contradiction e'.least e.none)
-  ends_alike m l m' l' Contradicted Contradicted room room' e e' = (
+  ends_alike m l m' l' (Ok (Some k)) (Ok None) room room' e e' = absurd (least_or_contradiction e.least e'.none)
+  ends_alike m l m' l' (Ok (Some k)) (Err why) room room' e e' = absurd e'
+  ends_alike m l m' l' (Ok None) (Ok (Some k)) room room' e e' = absurd (least_or_contradiction e'.least e.none)
+  ends_alike m l m' l' (Ok None) (Ok None) room room' e e' = (
     refl,
     λ i h.
         ap (λ (x : List ℕ). get_or x i 0) e.bytes ∙ threes_are n m i h
         ∙ sym (ap (λ (x : List ℕ). get_or x i 0) e'.bytes ∙ threes_are n l i h),
   )
-  ends_alike m l m' l' Contradicted (RefusedMap why) room room' e e' = absurd e'
-  ends_alike m l m' l' (RefusedMap why) q room room' e e' = absurd e
+  ends_alike m l m' l' (Ok None) (Err why) room room' e e' = absurd e'
+  ends_alike m l m' l' (Err why) q room room' e e' = absurd e
 
   pub ends_written : (m m' : List ℕ) (r : Opened) → Room n m → Ends sh Q m m' r → Written n m m'
-  ends_written m m' (ClosedWith k) room e = e.written
-  ends_written m m' Contradicted room e = subst (Written n m) (sym e.bytes) (threes_written n m room)
-  ends_written m m' (RefusedMap why) room e = absurd e
+  ends_written m m' (Ok (Some k)) room e = e.written
+  ends_written m m' (Ok None) room e = subst (Written n m) (sym e.bytes) (threes_written n m room)
+  ends_written m m' (Err why) room e = absurd e
 
   pub ends_tight : (m m' m'' : List ℕ) (r r' : Opened) → Room n m → Ends sh Q m m' r → Ends sh Q m m'' r' → Same r r' m' m''
   ends_tight m m' m'' r r' room e e' =
@@ -143,9 +134,9 @@ pub opens_tight : (s m m' m'' : List ℕ) (r r' : Opened) → Opens s m m' r →
 opens_tight s m m' m'' r r' p p' =
     upon_both
     s
-    (open_gate s m)
+    (room_gate s m)
     (λ why. both r r' m' m'')
-    (λ sh on. ends_tight sh (Holding (computed sh)) m m' m'' r r' (on_lent (λ o t g. (open_goes s m g).1) on).1)
+    (λ sh on. ends_tight sh (Holding (computed sh)) m m' m'' r r' (on_lent (λ o t g. (room_goes s m g).1) on).1)
     p.promise
     p'.promise
 
@@ -166,11 +157,11 @@ pins_tight s m a v m' m'' r r' p p' =
 pub test_ends_tight : (sh : Sheet) (m : List ℕ) (q q' : Tested) → TestEnds sh m q → TestEnds sh m q' → q ≡ q'
 test_ends_tight sh m IsStable IsStable e e' = refl
 test_ends_tight sh m IsStable NotStable e e' = absurd (e' e)
-test_ends_tight sh m IsStable (RefusedTest why) e e' = absurd e'
+test_ends_tight sh m IsStable (Err why) e e' = absurd e'
 test_ends_tight sh m NotStable IsStable e e' = absurd (e e')
 test_ends_tight sh m NotStable NotStable e e' = refl
-test_ends_tight sh m NotStable (RefusedTest why) e e' = absurd e'
-test_ends_tight sh m (RefusedTest why) q' e e' = absurd e
+test_ends_tight sh m NotStable (Err why) e e' = absurd e'
+test_ends_tight sh m (Err why) q' e e' = absurd e
 
 pub tests_tight : (s m : List ℕ) (r r' : Tested) → Tests s m r → Tests s m r' → r ≡ r'
 tests_tight s m r r' p p' =
@@ -192,7 +183,7 @@ module _ (sh : Sheet) (ok : Numbered sh) where
         ∙ ap (λ (x : ℕ). eqb x 1) (side_index sh.atoms l' i h)),
   )
   solve_ends_alike m l m' l' ModelFound NoneFound e e' = absurd (e'.0 _ e.first.is)
-  solve_ends_alike m l m' l' ModelFound (RefusedSolve why) e e' = absurd e'
+  solve_ends_alike m l m' l' ModelFound (Err why) e e' = absurd e'
   solve_ends_alike m l m' l' NoneFound ModelFound e e' = absurd (e.0 _ e'.first.is)
   solve_ends_alike m l m' l' NoneFound NoneFound e e' = (
     refl,
@@ -200,17 +191,17 @@ module _ (sh : Sheet) (ok : Numbered sh) where
         ap (λ (x : List ℕ). get_or x i 0) e.1 ∙ threes_are sh.atoms m i h
         ∙ sym (ap (λ (x : List ℕ). get_or x i 0) e'.1 ∙ threes_are sh.atoms l i h),
   )
-  solve_ends_alike m l m' l' NoneFound (RefusedSolve why) e e' = absurd e'
-  solve_ends_alike m l m' l' (RefusedSolve why) q e e' = absurd e
+  solve_ends_alike m l m' l' NoneFound (Err why) e e' = absurd e'
+  solve_ends_alike m l m' l' (Err why) q e e' = absurd e
 
 solve_written : (sh : Sheet) (m m' : List ℕ) (r : Solved) → Room sh.atoms m → SolveEnds sh m m' r → Written sh.atoms m m'
 solve_written sh m m' ModelFound room e = e.written
 solve_written sh m m' NoneFound room e = subst (Written sh.atoms m) (sym e.1) (threes_written sh.atoms m room)
-solve_written sh m m' (RefusedSolve why) room e = absurd e
+solve_written sh m m' (Err why) room e = absurd e
 
 pub solves_tight : (s m m' m'' : List ℕ) (r r' : Solved) → Solves s m m' r → Solves s m m'' r' → Same r r' m' m''
 solves_tight s m m' m'' r r' p p' =
-    upon_both s (solve_gate s m) (λ why. both r r' m' m'') (λ sh on. ended sh (on_lent (λ o t g. (solve_goes s m g).1) on)) p.promise p'.promise
+    upon_both s (room_gate s m) (λ why. both r r' m' m'') (λ sh on. ended sh (on_lent (λ o t g. (room_goes s m g).1) on)) p.promise p'.promise
   where
     ended : (sh : Sheet) → (sheet_of s ≡ accepted sh) × Room sh.atoms m → SolveEnds sh m m' r → SolveEnds sh m m'' r' → Same r r' m' m''
     ended sh (is, room) e e' =

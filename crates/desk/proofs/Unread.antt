@@ -17,29 +17,21 @@ use Rattle.numbers.specs.declared.Refusal.{Refusal}
 use Rattle.sheet.specs.Sheet.{sheet_read}
 use Rattle.sheet.specs.Meaning.{sheet_meant}
 use Rattle.sheet.specs.declared.Outline.{Outline}
-use Rattle.sheet.specs.declared.SheetRead.TheVariants.{Accepted}
 use Rattle.sheet.proofs.Accepted.{numbered}
 use Rattle.sheet.proofs.sheet.Written.{meant}
 use Rattle.gate.specs.Scan.{is_contradiction}
 use Rattle.gate.specs.Gate.{test_gate, pin_gate, margin_gate}
-use Rattle.gate.specs.declared.Task.{Task}
-use Rattle.gate.specs.declared.Gate.{Gate}
-use Rattle.gate.specs.declared.Gate.TheVariants.{Stop, Go}
 use Rattle.gate.proofs.Calls.{Lent, opens_through, solves_through, pin_through, test_goes, margin_through}
 use Rattle.gate.proofs.Past.{pin_gate_same, test_gate_same, margin_gate_same}
 use Rattle.gate.proofs.scan.Maps.{is_contradiction_same}
 use Rattle.desk.specs.Promise.{Upon, Opens, Pins, Solves, Tests, Margins, Ends, PinAsks, PinEnds, TestEnds}
-use Rattle.desk.specs.declared.Opened.{Opened}
-use Rattle.desk.specs.declared.Opened.TheVariants.{Refused as RefusedMap}
 use Rattle.desk.specs.declared.Solved.{Solved}
 use Rattle.desk.specs.declared.Tested.{Tested}
-use Rattle.desk.specs.declared.Tested.TheVariants.{Stable as IsStable, NotStable, Refused as RefusedTest}
-use Rattle.desk.specs.declared.MarginRead.{MarginRead}
-use Rattle.desk.specs.declared.MarginRead.TheVariants.{Is as MarginIs, Refused as RefusedMargin}
+use Rattle.desk.specs.declared.Tested.TheVariants.{Stable as IsStable, NotStable}
 use Rattle.desk.proofs.Tight.{Agree, ends_alike, solve_ends_alike, test_ends_tight}
 
 -- an accepted sheet, and two lent maps that are long enough
-module _ (s : List ℕ) (o : Outline) (accepted : sheet_read s ≡ Accepted o) (m l : List ℕ) (room : Room o.atoms m) (room' : Room o.atoms l) where
+module _ (s : List ℕ) (o : Outline) (accepted : sheet_read s ≡ Ok o) (m l : List ℕ) (room : Room o.atoms m) (room' : Room o.atoms l) where
   abbrev sh : Sheet
   sh = sheet_meant s o
 
@@ -53,8 +45,8 @@ module _ (s : List ℕ) (o : Outline) (accepted : sheet_read s ≡ Accepted o) (
   lent' = record { accepted = accepted; room = room' }
 
   -- where the gate lets a call go on
-  goes : (A : Refusal → Type 0) (B : Sheet → Type 0) {g : Gate} {t : Task} → g ≡ Go o t → Upon s g A B → B sh
-  goes A B e p = subst (λ (x : Gate). Upon s x A B) e p
+  goes : (A : Refusal → Type 0) (B : Sheet → Type 0) {g : (Result Outline Refusal)} {t : Task} → g ≡ Ok o → Upon s g A B → B sh
+  goes A B e p = subst (λ (x : (Result Outline Refusal)). Upon s x A B) e p
 
   pub open_reads_no_map : {m' l' : List ℕ} {r q : Opened} → Opens s m m' r → Opens s l l' q → (r ≡ q) × Agree n m' l'
   unfolding sheet_meant
@@ -70,8 +62,8 @@ module _ (s : List ℕ) (o : Outline) (accepted : sheet_read s ≡ Accepted o) (
       q
       room
       room'
-      (goes _ _ (opens_through lent) p.promise)
-      (goes _ _ (opens_through lent') p'.promise)
+      (goes _ _ (room_through lent) p.promise)
+      (goes _ _ (room_through lent') p'.promise)
 
   pub solve_reads_no_map : {m' l' : List ℕ} {r q : Solved} → Solves s m m' r → Solves s l l' q → (r ≡ q) × Agree n m' l'
   unfolding sheet_meant
@@ -85,8 +77,8 @@ module _ (s : List ℕ) (o : Outline) (accepted : sheet_read s ≡ Accepted o) (
       l'
       r
       q
-      (goes _ _ (solves_through lent) p.promise)
-      (goes _ _ (solves_through lent') p'.promise)
+      (goes _ _ (room_through lent) p.promise)
+      (goes _ _ (room_through lent') p'.promise)
 
   -- the lent maps agree on their first n bytes
   module _ (same : Agree o.atoms m l) where
@@ -95,24 +87,24 @@ module _ (s : List ℕ) (o : Outline) (accepted : sheet_read s ≡ Accepted o) (
 
     -- a call whose gate is the same for both maps, and goes on, if at all, with this sheet
     by_gate :
-        (g : Gate) (A A' : Refusal → Type 0) (B B' : Sheet → Type 0) {C : Type 0}
-        → ((y : Outline) (t : Task) → g ≡ Go y t → sheet_read s ≡ Accepted y) → ((why : Refusal) → A why → A' why → C)
+        (g : (Result Outline Refusal)) (A A' : Refusal → Type 0) (B B' : Sheet → Type 0) {C : Type 0}
+        → ((y : Outline) (t : Task) → g ≡ Ok y → sheet_read s ≡ Ok y) → ((why : Refusal) → A why → A' why → C)
         → (B sh → B' sh → C) → Upon s g A B → Upon s g A' B' → C
-    by_gate (Stop why) A A' B B' f stop go p p' = stop why p p'
-    by_gate (Go y t) A A' B B' f stop go p p' =
+    by_gate (Err why) A A' B B' f stop go p p' = stop why p p'
+    by_gate (Ok y) A A' B B' f stop go p p' =
         let e : y ≡ o = same_accepted (f y t refl) accepted in
         go (subst (λ (x : Outline). B (sheet_meant s x)) e p) (subst (λ (x : Outline). B' (sheet_meant s x)) e p')
       where
-        same_accepted : {x y : Outline} → sheet_read s ≡ Accepted x → sheet_read s ≡ Accepted y → x ≡ y
-        same_accepted h k = let z : Accepted _ ≡ Accepted _ = sym h ∙ k in cc
+        same_accepted : {x y : Outline} → sheet_read s ≡ Ok x → sheet_read s ≡ Ok y → x ≡ y
+        same_accepted h k = let z : Ok _ ≡ Ok _ = sym h ∙ k in cc
 
     pub pin_reads_no_more : (a v : ℕ) {m' l' : List ℕ} {r q : Opened} → Pins s m a v m' r → Pins s l a v l' q → (r ≡ q) × Agree n m' l'
     unfolding sheet_meant
     pin_reads_no_more a v {m'} {l'} {r} {q} p p' =
         by_gate
         (pin_gate s m a v)
-        (λ why. (r ≡ RefusedMap why) × (m' ≡ m))
-        (λ why. (q ≡ RefusedMap why) × (l' ≡ l))
+        (λ why. (r ≡ Err why) × (m' ≡ m))
+        (λ why. (q ≡ Err why) × (l' ≡ l))
         (λ x. PinEnds (is_contradiction x.atoms m) x m a v m' r)
         (λ x. PinEnds (is_contradiction x.atoms l) x l a v l' q)
         (λ y t g. (pin_through s m a v g).lent.accepted)
@@ -120,7 +112,7 @@ module _ (s : List ℕ) (o : Outline) (accepted : sheet_read s ≡ Accepted o) (
         (λ e e'. ended (is_contradiction n m) e (subst (λ (b : Bool). PinEnds b sh l a v l' q) (sym (is_contradiction_same n m l same)) e'))
         p.promise
         (subst
-        (λ (g : Gate). Upon s g (λ why. (q ≡ RefusedMap why) × (l' ≡ l)) (λ x. PinEnds (is_contradiction x.atoms l) x l a v l' q))
+        (λ (g : (Result Outline Refusal)). Upon s g (λ why. (q ≡ Err why) × (l' ≡ l)) (λ x. PinEnds (is_contradiction x.atoms l) x l a v l' q))
         (sym (pin_gate_same o m l same s lent lent' a v))
         p'.promise)
       where
@@ -149,8 +141,8 @@ module _ (s : List ℕ) (o : Outline) (accepted : sheet_read s ≡ Accepted o) (
     test_reads_no_more {r} {q} p p' =
         by_gate
         (test_gate s m)
-        (λ why. r ≡ RefusedTest why)
-        (λ why. q ≡ RefusedTest why)
+        (λ why. r ≡ Err why)
+        (λ why. q ≡ Err why)
         (λ x. TestEnds x m r)
         (λ x. TestEnds x l q)
         (λ y t g. (test_goes s m g).1.accepted)
@@ -158,29 +150,29 @@ module _ (s : List ℕ) (o : Outline) (accepted : sheet_read s ≡ Accepted o) (
         (λ e e'. test_ends_tight sh m r q e (ended q e'))
         p.promise
         (subst
-        (λ (g : Gate). Upon s g (λ why. q ≡ RefusedTest why) (λ x. TestEnds x l q))
+        (λ (g : (Result Outline Refusal)). Upon s g (λ why. q ≡ Err why) (λ x. TestEnds x l q))
         (sym (test_gate_same o m l same s lent lent'))
         p'.promise)
       where
         ended : (x : Tested) → TestEnds sh l x → TestEnds sh m x
         ended IsStable e = subst (λ (M : Map). Model sh (is 1 M)) (sym sides) e
         ended NotStable e = λ md. e (subst (λ (M : Map). Model sh (is 1 M)) sides md)
-        ended (RefusedTest why) e = e
+        ended (Err why) e = e
 
     pub margin_reads_no_more : (k : ℕ) {r q : MarginRead} → Margins s m k r → Margins s l k q → r ≡ q
     unfolding sheet_meant
     margin_reads_no_more k {r} {q} p p' =
         by_gate
         (margin_gate s m k)
-        (λ why. r ≡ RefusedMargin why)
-        (λ why. q ≡ RefusedMargin why)
-        (λ x. r ≡ MarginIs (margin (nth_rule x k) (side x.atoms m)))
-        (λ x. q ≡ MarginIs (margin (nth_rule x k) (side x.atoms l)))
+        (λ why. r ≡ Err why)
+        (λ why. q ≡ Err why)
+        (λ x. r ≡ Ok (margin (nth_rule x k) (side x.atoms m)))
+        (λ x. q ≡ Ok (margin (nth_rule x k) (side x.atoms l)))
         (λ y t g. (margin_through s m k g).1.accepted)
         (λ why. fixed r q)
-        (λ e e'. e ∙ ap (λ (M : Map). MarginIs (margin (nth_rule sh k) M)) sides ∙ sym e')
+        (λ e e'. e ∙ ap (λ (M : Map). Ok (margin (nth_rule sh k) M)) sides ∙ sym e')
         p.promise
         (subst
-        (λ (g : Gate). Upon s g (λ why. q ≡ RefusedMargin why) (λ x. q ≡ MarginIs (margin (nth_rule x k) (side x.atoms l))))
+        (λ (g : (Result Outline Refusal)). Upon s g (λ why. q ≡ Err why) (λ x. q ≡ Ok (margin (nth_rule x k) (side x.atoms l))))
         (sym (margin_gate_same o m l same s lent lent' k))
         p'.promise)

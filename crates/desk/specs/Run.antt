@@ -2,15 +2,13 @@
 -- accepted pins, in any order, with repeats and refused pins between, end in the same map: the smallest consistent set that holds
 -- pins and compute lists and is closed under the four forcing rules, or contradiction exactly where there is none."
 -- Where a run ends is said by Promise.antt's `Ends`: where one open would that asked for the compute lists and the pins at once.
-use Rattle.std.specs.Prelude.{ℕ, ◌≤◌, ◌≡◌, List, [], ◌∷◌, length, eqb}
+use Rattle.std.specs.Prelude.{ℕ, ◌≤◌, ◌≡◌, List, [], ◌∷◌, length, eqb, Ok, Err}
 use Rattle.rules.specs.Sum.{pick}
 use Rattle.rules.specs.Rule.{Sheet}
 use Rattle.rules.specs.Map.{Literal, signed}
 use Rattle.sheet.specs.Meaning.{accepted, sheet_of}
 use Rattle.gate.specs.Gate.{is_pin}
-use Rattle.desk.specs.Promise.{Opens, Pins}
-use Rattle.desk.specs.declared.Opened.{Opened}
-use Rattle.desk.specs.declared.Opened.TheVariants.{Closed as ClosedWith, Contradiction as Contradicted, Refused as RefusedMap}
+use Rattle.desk.specs.Promise.{Opened, Opens, Pins}
 
 -- a pin as it is asked for: any two numbers
 pub record Pin : Type 0 where
@@ -25,9 +23,8 @@ accepted_of n (p ∷ ps) =
 
 -- the latest answer that is no refusal
 abbrev pub latest : Opened → Opened → Opened
-latest r (ClosedWith k) = ClosedWith k
-latest r Contradicted = Contradicted
-latest r (RefusedMap why) = r
+latest r (Ok end) = Ok end
+latest r (Err why) = r
 
 -- pin calls one after another, each with its promise: from a map and an answer to a map and the latest answer
 pub data PinCalls (s : List ℕ) : List ℕ → Opened → List Pin → List ℕ → Opened → Type 0 where

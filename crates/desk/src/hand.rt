@@ -1,43 +1,27 @@
-// The map that was worked on, handed over to the lent one: its bytes, or n bytes of 3.
-ghost use Rattle.std.specs.Prelude.{◌≡◌};
+// The map that was worked on, handed over to the lent one: its first n bytes and the number of undecided atoms, or n bytes of 3.
 ghost use Rattle.rules.specs.Inner.Bytes.{Room};
-ghost use Rattle.desk.specs.Promise.{threes};
-ghost use Rattle.desk.specs.Inner.Serve.{HandsMap, HandsModel};
+ghost use Rattle.desk.specs.Inner.Hand.{Hands};
 
-use super::{Opened, Solved};
-use task::{Answer, copy};
+use weigh::Clash;
 
-fn write_threes(n: usize, m: &mut [u8])
-    requires { Room n m.old }
-    ensures { m.new ≡ threes n m.old }
+pub(crate) fn hand(
+    n: usize,
+    closed: Result<u32, Clash>,
+    work: &[u8],
+    map: &mut [u8],
+) -> Option<usize>
+    requires worked { Room n work.now }
+    requires lent { Room n map.old }
+    ensures { Hands n closed work.now map.old map.new result }
 {
-    let mut i = 0;
-    while i < n {
-        m[i] = 3;
-        i += 1;
+    match closed {
+        Ok(undecided) => {
+            map[..n].copy_from_slice(&work[..n]);
+            Some(undecided as usize)
+        }
+        Err(_) => {
+            map[..n].fill(3);
+            None
+        }
     }
-}
-
-pub(crate) fn hand_map(answer: Answer, work: &[u8], map: &mut [u8]) -> Opened
-    requires { Room answer.atoms work.now × Room answer.atoms map.old }
-    ensures { HandsMap answer work.now map.old map.new result }
-{
-    if answer.found {
-        copy(work, answer.atoms, map);
-        return Opened::Closed(answer.number);
-    }
-    write_threes(answer.atoms, map);
-    Opened::Contradiction
-}
-
-pub(crate) fn hand_model(answer: Answer, work: &[u8], map: &mut [u8]) -> Solved
-    requires { Room answer.atoms work.now × Room answer.atoms map.old }
-    ensures { HandsModel answer work.now map.old map.new result }
-{
-    if answer.found {
-        copy(work, answer.atoms, map);
-        return Solved::Model;
-    }
-    write_threes(answer.atoms, map);
-    Solved::NoModel
 }

@@ -8,6 +8,7 @@ use lib.Dec.{T}
 use Rattle.rules.specs.Rule.{Rule, Within}
 use Rattle.rules.specs.Map.{Map, side, want, reach, ◌⊑◌}
 use Rattle.rules.specs.Forcing.{Closed, supports, Only}
+use Rattle.rules.specs.Inner.Bytes.{MapBytes}
 use Rattle.rules.specs.Inner.Decides.{Decides}
 use Rattle.rules.proofs.Sum.{tally_mono, count_some}
 use Rattle.rules.proofs.Decides.{is_so, not_so}
@@ -16,12 +17,12 @@ use Rattle.rules.proofs.Forced.{supports_head, supports_reach, to_supports, one_
 use Rattle.table.specs.Inner.Words.{pair_atom}
 use Rattle.table.specs.Inner.Rows.{heads_at, positives_at, need_at, row_rule}
 use Rattle.table.proofs.Words.{atoms_has}
+use Rattle.weigh.specs.Inner.Step.{Outcome}
 use Rattle.weigh.specs.Inner.Press.{aim, Pressed, Due, PressesBody}
-use Rattle.weigh.specs.declared.Outcome.{Outcome}
-use Rattle.weigh.specs.declared.Outcome.TheVariants.{Same}
+use Rattle.std.specs.Prelude.{Ok}
 use Rattle.weigh.proofs.Bytes.{proper_map}
 use Rattle.weigh.proofs.Steps.{kept_refl, step_same, quieter}
-use Rattle.forcing.specs.Inner.Support.{supporters, Counts, Scarce, ScarceHead, Backed, BackAsks, Backs}
+use Rattle.forcing.specs.Inner.Support.{supporters, Counts, Scarce, ScarceHead, Backed, Backs}
 use Rattle.forcing.proofs.HeadScans.{Sofar, scan_more, scan_end}
 use Rattle.forcing.proofs.Counting.{one_told, told_one_in}
 
@@ -70,9 +71,8 @@ module _ (c : List ℕ) (n i : ℕ) (M : Map) (counts : List ℕ) (least : ℕ) 
       }
 
   pub scarce_more :
-      (j : ℕ) (b : Bool) → heads_at c i ≤ j → b ≡ false → Decides b (Scarce n M counts least (pair_atom c j)) → Sofar c i Ample j
-      → (heads_at c i ≤ j + 1) × Sofar c i Ample (j + 1)
-  scarce_more j b l e t none = scan_more c i Ample j l (not_so e t) none
+      (j : ℕ) (b : Bool) → b ≡ false → Decides b (Scarce n M counts least (pair_atom c j)) → Sofar c i Ample j → Sofar c i Ample (j + 1)
+  scarce_more j b e t none = scan_more c i Ample j (not_so e t) none
 
   pub scarce_nowhere : (j : ℕ) → positives_at c i ≤ j → Sofar c i Ample j → Decides false (ScarceHead c n i M counts least)
   scarce_nowhere j b none = record { decides = λ s. scan_end c i Ample j b none s.atom s.head s.scarce }
@@ -88,19 +88,19 @@ fewer_supporters P M M' a f =
     tally_mono (supports a M') (supports a M) (λ _. 1) P
     (λ r b t. to_supports a M r (supports_head a M' r t) (omega (arith, reach_falls f r, supports_reach a M' r t)))
 
-module _ (c : List ℕ) (n i : ℕ) (counts m : List ℕ) (asks : BackAsks c n i counts m) where
+module _ (c : List ℕ) (n i : ℕ) (counts m : List ℕ) (proper : MapBytes n m) where
   -- nothing to add, and nothing done
-  left : ((P : List Rule) → Counts P n (side n m) counts → Backed P (row_rule c i) (side n m)) → Backs c n i counts m m Same
+  left : ((P : List Rule) → Counts P n (side n m) counts → Backed P (row_rule c i) (side n m)) → Backs c n i counts m m (Ok false)
   left q =
       record {
-        kept = kept_refl n m asks.proper;
-        step = λ P b M₀ up k. step_same (Closed P n) n (λ M. Counts P n M counts → Backed P (row_rule c i) M) m asks.proper (q P);
+        kept = kept_refl n m proper;
+        step = λ P b M₀ up k. step_same (Closed P n) n (λ M. Counts P n M counts → Backed P (row_rule c i) M) m proper (q P);
       }
 
   within : (a : ℕ) → side n m a ≡ 1 → Within n a
-  within a e = decided_within (proper_map n m asks.proper) true a e
+  within a e = decided_within (proper_map n m proper) true a e
 
-  pub back_none : (b : Bool) → b ≡ false → Decides b (ScarceHead c n i (side n m) counts 1) → Backs c n i counts m m Same
+  pub back_none : (b : Bool) → b ≡ false → Decides b (ScarceHead c n i (side n m) counts 1) → Backs c n i counts m m (Ok false)
   back_none b e t =
       left
       (λ P k a h o g.
@@ -114,7 +114,7 @@ module _ (c : List ℕ) (n i : ℕ) (counts m : List ℕ) (asks : BackAsks c n i
       })))
 
   module _ (need most : ℕ) (en : need ≡ need_at c i) (er : most ≡ reach (row_rule c i) (side n m)) where
-    pub back_short : most < need → Backs c n i counts m m Same
+    pub back_short : most < need → Backs c n i counts m m (Ok false)
     back_short h =
         left (λ P k a e o g. absurd (omega (arith, supports_reach a (side n m) (row_rule c i) g, en, er)))
 

@@ -1,16 +1,14 @@
 -- Where no pass adds anything, each forcing rule holds of the map, so it is closed; and what was added on the way is in every closed
 -- map above the first, so it is the smallest.
-use Prim.Native.Nat.{ℕ, suc, ◌+◌, ◌-◌, ◌≤◌, ◌<◌}
-use mathlib.Core.Path.{◌≡◌, sym, ◌∙◌, ap, subst}
-use mathlib.Core.Bool.{Bool, true, false, false≢true}
+use Prim.Native.Nat.{ℕ, ◌+◌, ◌-◌, ◌<◌}
+use mathlib.Core.Path.{◌≡◌, refl, sym, ◌∙◌, subst}
+use mathlib.Core.Bool.{Bool, true, false, cond, true≢false}
+use Rattle.std.proofs.lemmas.List.Recursion.{is_count_by}
 use mathlib.Core.List.{List}
 use mathlib.Core.Logic.{⊎_elim}
 use native.Mathlib.Omega.{arith}
-use native.Mathlib.Numerals.{add-one}
 use lib.Dec.{eqb}
-use lib.ListN.{length, get_or, take, drop, drop_of_length-le}
-use lib.Seq.{length-take-le, drop-cons, get_or-take}
-use borrow.Author.Tests.{eq-eqb, ne_eqb}
+use lib.ListN.{take}
 use Rattle.rules.specs.Sum.{counted, tally}
 use Rattle.rules.specs.Rule.{Rule, Within}
 use Rattle.rules.specs.Map.{Map, side, ◌⊑◌, undecided}
@@ -20,48 +18,43 @@ use Rattle.rules.proofs.Maps.{decided_within}
 use Rattle.rules.proofs.Bytes.{side_at}
 use Rattle.table.specs.Inner.Rows.{row_rule, table_rules, Laid}
 use Rattle.table.proofs.Rows.{Standing, rule_stands, rule_mem, laid_fits}
-use Rattle.weigh.specs.Inner.Step.{Step, Till, is_clash, is_grew, is_same, Kept, Forces}
-use Rattle.weigh.specs.declared.Outcome.{Outcome}
-use Rattle.weigh.specs.declared.Outcome.TheVariants.{Clash, Same, Grew}
+use Rattle.weigh.specs.Inner.Step.{Outcome, Step, Till, Kept, Forces}
+use Rattle.std.specs.Prelude.{Ok, Err, Option, Some, None, is_some, count_by, ◌==◌}
+use Rattle.weigh.specs.declared.Clash.{Clash}
 use Rattle.weigh.proofs.Bytes.{proper_map, equal?}
 use Rattle.weigh.proofs.Steps.{kept_refl, kept_trans, forces_refl, forces_trans, step_same, quieter, step_joined}
 use Rattle.forcing.specs.Inner.Heads.{Settled, SettlesAll}
 use Rattle.forcing.specs.Inner.Support.{Counts, Backed, BacksAll}
 use Rattle.forcing.specs.Inner.Ground.{ListsFounded, Drops, Unless}
-use Rattle.forcing.specs.Inner.Rounds.{FirstWith, LowestAt, Forcing, BackedAll, FoundedAll, ClosesMap}
-use Rattle.forcing.specs.declared.Closing.TheVariants.{NoneHolds, ClosedWith}
+use Rattle.forcing.specs.Inner.Rounds.{FirstWith, NoneWith, Forcing, BackedAll, FoundedAll, ClosesMap}
 use Rattle.forcing.proofs.Founding.{unfounded_out}
 use Rattle.forcing.proofs.Counting.{one_told, only_once}
-
--- the zero bytes before index i are counted
-pub record Summed (n : ℕ) (m : List ℕ) (sum i : ℕ) : Type 0 where
-  pub few : sum ≤ i
-  pub whole : sum + tally (λ b. eqb b 0) (λ _. 1) (drop i (take n m)) ≡ undecided n m
 
 -- what is added so far is forced
 pub record Closes (c : List ℕ) (n count : ℕ) (m m' : List ℕ) : Type 0 where
   pub kept : Kept n m m'
   pub forces : Forces (Closed (table_rules c count) n) (side n m) (side n m')
 
--- an outcome that is not the same is not quiet for anything
+-- a step that added something is not quiet for anything
 pub loud_any :
-    (Good : Map → Type 0) (n : ℕ) (Q Q' : Map → Type 0) (m m' : List ℕ) (r : Outcome) → is_same r ≡ false → Step Good n Q m m' r
-    → Step Good n Q' m m' r
-loud_any Good n Q Q' m m' Clash e s = record { kept = s.kept; went = s.went }
-loud_any Good n Q Q' m m' Same e s = absurd (false≢true (sym e))
-loud_any Good n Q Q' m m' Grew e s = record { kept = s.kept; went = s.went }
+    (Good : Map → Type 0) (n : ℕ) (Q Q' : Map → Type 0) (m m' : List ℕ) → Step Good n Q m m' (Ok true) → Step Good n Q' m m' (Ok true)
+loud_any Good n Q Q' m m' s = record { kept = s.kept; went = s.went }
 
 -- two steps of which the first adds nothing
 pub after_same :
-    (Good : Map → Type 0) (n : ℕ) (Q Q' : Map → Type 0) (m m' m'' : List ℕ) (r q : Outcome) → is_same r ≡ true → Step Good n Q m m' r
+    (Good : Map → Type 0) (n : ℕ) (Q Q' : Map → Type 0) (m m' m'' : List ℕ) (q : Outcome) → Step Good n Q m m' (Ok false)
     → Step Good n Q' m' m'' q → Step Good n (λ M. Q M × Q' M) m m'' q
-after_same Good n Q Q' m m' m'' Clash q e s t = absurd (false≢true e)
-after_same Good n Q Q' m m' m'' Same q e s t = step_joined Good n Q Q' m m' m'' Same q s t.kept (λ _. t)
-after_same Good n Q Q' m m' m'' Grew q e s t = absurd (false≢true e)
+after_same Good n Q Q' m m' m'' (Err e) s t = step_joined Good n Q Q' m m' m'' false (Err e) s t.kept (λ _. t)
+after_same Good n Q Q' m m' m'' (Ok q) s t = step_joined Good n Q Q' m m' m'' false (Ok q) s t.kept (λ _. t)
+
+-- where no index is found there is no such byte
+pub none_with : {v n : ℕ} (m : List ℕ) (r : Option ℕ) → is_some r ≡ false → FirstWith v n m r → NoneWith v n m
+none_with m None e h = h
+none_with m (Some i) e h = absurd (true≢false e)
 
 -- where no byte is v no atom has that side
-no_byte : {v n : ℕ} {m : List ℕ} {i : ℕ} → FirstWith v n m i → i ≡ n → {a : ℕ} → Within n a → side n m a ≡ v → ⊥
-no_byte {v} {n} {m} first e {a} w z = first.lower (a - 1) (omega (arith, e, w.low, w.high)) (sym (side_at n m a w) ∙ z)
+no_byte : {v n : ℕ} (m : List ℕ) → NoneWith v n m → {a : ℕ} → Within n a → side n m a ≡ v → ⊥
+no_byte {v} {n} m none {a} w z = none (a - 1) (omega (arith, w.low, w.high)) (sym (side_at n m a w) ∙ z)
 
 module _ (c : List ℕ) (n count : ℕ) where
   -- the counts were those of the map where the pass began
@@ -75,25 +68,25 @@ module _ (c : List ℕ) (n count : ℕ) where
       (λ t i l h. t i l h k) s
 
   -- rule 2 makes undecided literals true, and there is none
-  pub backed_whole : Laid c n count → (m : List ℕ) → MapBytes n m → (i : ℕ) → LowestAt n m i → i ≡ n → Forcing c n count (BackedAll c count) m m Same
-  backed_whole laid m p i low e =
+  pub backed_whole : Laid c n count → (m : List ℕ) → MapBytes n m → NoneWith 0 n m → Forcing c n count (BackedAll c count) m m (Ok false)
+  backed_whole laid m p none =
       step_same (Closed (table_rules c count) n) n (BackedAll c count) m p
-      (λ k _ h a _ _ _ s l b z _. no_byte low e ((laid_fits c n count laid).literal (row_rule c k) (rule_mem c count k h) s l b) z)
+      (λ k _ h a _ _ _ s l b z _. no_byte m none ((laid_fits c n count laid).literal (row_rule c k) (rule_mem c count k h) s l b) z)
 
   -- rule 2 speaks of atoms that are in, and there is none
-  pub backed_idle : (m : List ℕ) → MapBytes n m → (i : ℕ) → FirstWith 1 n m i → i ≡ n → Forcing c n count (BackedAll c count) m m Same
-  backed_idle m p i none e =
-      step_same (Closed (table_rules c count) n) n (BackedAll c count) m p (λ k _ h a t _ _ s l b z _. no_byte none e (decided_within (proper_map n m p) true a t) t)
+  pub backed_idle : (m : List ℕ) → MapBytes n m → NoneWith 1 n m → Forcing c n count (BackedAll c count) m m (Ok false)
+  backed_idle m p none =
+      step_same (Closed (table_rules c count) n) n (BackedAll c count) m p (λ k _ h a t _ _ s l b z _. no_byte m none (decided_within (proper_map n m p) true a t) t)
 
   -- rule 2 speaks of atoms that one rule can give, and there is none
   pub backed_more :
-      (m counts : List ℕ) → MapBytes n m → Counts (table_rules c count) n (side n m) counts → (i : ℕ) → FirstWith 1 n counts i → i ≡ n
-      → Forcing c n count (BackedAll c count) m m Same
-  backed_more m counts p tells i none e =
+      (m counts : List ℕ) → MapBytes n m → Counts (table_rules c count) n (side n m) counts → NoneWith 1 n counts
+      → Forcing c n count (BackedAll c count) m m (Ok false)
+  backed_more m counts p tells none =
       step_same (Closed (table_rules c count) n) n (BackedAll c count) m p
       (λ k _ h a t o _ s l b z _.
       let w = decided_within (proper_map n m p) true a t in
-      no_byte none e w (one_told (table_rules c count) n (side n m) counts tells a w t o))
+      no_byte counts none w (one_told (table_rules c count) n (side n m) counts tells a w t o))
 
   pub dropped :
       (m m' u : List ℕ) (r : Outcome) → ListsFounded c n count m u → Drops n u m (n + 1) m' r
@@ -131,26 +124,24 @@ module _ (c : List ℕ) (n count : ℕ) where
   Settling : Map → Type 0
   Settling = Till (λ k. Settled (row_rule c k)) 0 count
 
+  -- the first two passes
+  pub round_second :
+      (m m₁ m₂ : List ℕ) (q : Outcome) → Forcing c n count (BackedAll c count) m m₁ (Ok false)
+      → Forcing c n count (FoundedAll c n count) m₁ m₂ q → Forcing c n count (λ M. BackedAll c count M × FoundedAll c n count M) m m₂ q
+  round_second m m₁ m₂ q t u = after_same (Closed (table_rules c count) n) n (BackedAll c count) (FoundedAll c n count) m m₁ m₂ q t u
+
   -- a round: three passes, or the first of them that adds something
   pub round_whole :
-      Laid c n count → (m m₁ m₂ m₃ : List ℕ) (r q o : Outcome) → MapBytes n m → is_same r ≡ true → Forcing c n count (BackedAll c count) m m₁ r
-      → is_same q ≡ true → Forcing c n count (FoundedAll c n count) m₁ m₂ q → SettlesAll c n count m₂ m₃ o
-      → Forcing c n count (Closed (table_rules c count) n) m m₃ o
+      Laid c n count → (m m₁ m₂ m₃ : List ℕ) (q : Outcome) → MapBytes n m → Forcing c n count (BackedAll c count) m m₁ (Ok false)
+      → Forcing c n count (FoundedAll c n count) m₁ m₂ (Ok false) → SettlesAll c n count m₂ m₃ q
+      → Forcing c n count (Closed (table_rules c count) n) m m₃ q
   unfolding Settling
-  round_whole laid m m₁ m₂ m₃ r q o p er t eq u s =
+  round_whole laid m m₁ m₂ m₃ q p t u s =
       quieter (Closed (table_rules c count) n) n (λ M. (BackedAll c count M × FoundedAll c n count M) × Settling M)
-      (Closed (table_rules c count) n) m m₃ o
+      (Closed (table_rules c count) n) m m₃ q
       (λ x. all_closed laid m p ((x.1, x.0.0), x.0.1))
-      (after_same (Closed (table_rules c count) n) n (λ M. BackedAll c count M × FoundedAll c n count M) Settling m m₂ m₃ q o eq
-      (after_same (Closed (table_rules c count) n) n (BackedAll c count) (FoundedAll c n count) m m₁ m₂ r q er t u) s)
-
-  pub round_second :
-      (m m₁ m₂ : List ℕ) (r q : Outcome) → is_same r ≡ true → Forcing c n count (BackedAll c count) m m₁ r → is_same q ≡ false
-      → Forcing c n count (FoundedAll c n count) m₁ m₂ q → Forcing c n count (Closed (table_rules c count) n) m m₂ q
-  round_second m m₁ m₂ r q er t eq u =
-      loud_any (Closed (table_rules c count) n) n (λ M. BackedAll c count M × FoundedAll c n count M) (Closed (table_rules c count) n) m m₂ q
-      eq
-      (after_same (Closed (table_rules c count) n) n (BackedAll c count) (FoundedAll c n count) m m₁ m₂ r q er t u)
+      (after_same (Closed (table_rules c count) n) n (λ M. BackedAll c count M × FoundedAll c n count M) Settling m m₂ m₃ q
+      (round_second m m₁ m₂ (Ok false) t u) s)
 
   -- rounds until none adds anything
   module _ (m : List ℕ) where
@@ -158,11 +149,9 @@ module _ (c : List ℕ) (n count : ℕ) where
     closes_begin p = record { kept = kept_refl n m p; forces = forces_refl (Closed (table_rules c count) n) (side n m) }
 
     pub closes_more :
-        (m' m'' : List ℕ) (r : Outcome) → is_grew r ≡ true → Closes c n count m m'
-        → Forcing c n count (Closed (table_rules c count) n) m' m'' r → Closes c n count m m'' × (undecided n m'' < undecided n m')
-    closes_more m' m'' Clash e f s = absurd (false≢true e)
-    closes_more m' m'' Same e f s = absurd (false≢true e)
-    closes_more m' m'' Grew e f s = (
+        (m' m'' : List ℕ) → Closes c n count m m' → Forcing c n count (Closed (table_rules c count) n) m' m'' (Ok true)
+        → Closes c n count m m'' × (undecided n m'' < undecided n m')
+    closes_more m' m'' f s = (
       record {
         kept = kept_trans n m m' m'' f.kept s.kept;
         forces = forces_trans (Closed (table_rules c count) n) f.forces
@@ -172,18 +161,15 @@ module _ (c : List ℕ) (n count : ℕ) where
     )
 
     pub closes_none :
-        (m' m'' : List ℕ) (r : Outcome) → is_clash r ≡ true → Closes c n count m m'
-        → Forcing c n count (Closed (table_rules c count) n) m' m'' r → ClosesMap c n count m m'' NoneHolds
-    closes_none m' m'' Clash e f s =
+        (m' m'' : List ℕ) {e e' : Clash} → Closes c n count m m' → Forcing c n count (Closed (table_rules c count) n) m' m'' (Err e)
+        → ClosesMap c n count m m'' (Err e')
+    closes_none m' m'' f s =
         record { kept = kept_trans n m m' m'' f.kept s.kept; answers = λ X x h. s.went.none X x (f.forces.sound X x h) }
-    closes_none m' m'' Same e f s = absurd (false≢true e)
-    closes_none m' m'' Grew e f s = absurd (false≢true e)
 
     pub closes_with :
-        (m' m'' : List ℕ) (r : Outcome) (k : ℕ) → is_grew r ≡ false → is_clash r ≡ false → Closes c n count m m'
-        → Forcing c n count (Closed (table_rules c count) n) m' m'' r → k ≡ undecided n m'' → ClosesMap c n count m m'' (ClosedWith k)
-    closes_with m' m'' Clash k e g f s u = absurd (false≢true (sym g))
-    closes_with m' m'' Same k e g f s u =
+        (m' m'' : List ℕ) (k : ℕ) → Closes c n count m m' → Forcing c n count (Closed (table_rules c count) n) m' m'' (Ok false)
+        → k ≡ undecided n m'' → ClosesMap c n count m m'' (Ok k)
+    closes_with m' m'' k f s u =
         record {
           kept = kept_trans n m m' m'' f.kept s.kept;
           answers = (
@@ -192,38 +178,17 @@ module _ (c : List ℕ) (n count : ℕ) where
             u,
           );
         }
-    closes_with m' m'' Grew k e g f s u = absurd (false≢true (sym e))
 
--- counting the zero bytes
-pub summed_begin : (n : ℕ) (m : List ℕ) → Summed n m 0 0
+-- the zero bytes are counted
+one_or_none : (b : Bool) (k : ℕ) → counted b 1 + k ≡ cond b (1 + k) k
+one_or_none true k = refl
+one_or_none false k = omega arith
+
+zeros_same : (xs : List ℕ) → tally (λ b. eqb b 0) (λ _. 1) xs ≡ count_by (λ x. x == 0) xs
+unfolding tally
+zeros_same =
+    is_count_by (tally (λ b. eqb b 0) (λ _. 1)) (λ x. x == 0) refl (λ x xs. one_or_none (eqb x 0) (tally (λ b. eqb b 0) (λ _. 1) xs))
+
+pub zeros_undecided : (n : ℕ) (m : List ℕ) → count_by (λ x. x == 0) (take n m) ≡ undecided n m
 unfolding undecided
-summed_begin n m = record { few = omega arith; whole = omega arith }
-
-module _ (n : ℕ) (m : List ℕ) (room : n ≤ length m) (sum i : ℕ) (s : Summed n m sum i) where
-  next :
-      i < n
-      → tally (λ b. eqb b 0) (λ _. 1) (drop i (take n m))
-      ≡ counted (eqb (get_or m i 0) 0) 1 + tally (λ b. eqb b 0) (λ _. 1) (drop (i + 1) (take n m))
-  unfolding tally
-  next h =
-      ap (tally (λ b. eqb b 0) (λ _. 1)) (drop-cons (take n m) i 0 (omega (arith, length-take-le n m room)))
-      ∙ ap (λ (x : ℕ). counted (eqb x 0) 1 + tally (λ b. eqb b 0) (λ _. 1) (drop (suc i) (take n m))) (get_or-take n m i 0 h)
-      ∙ ap (λ (x : ℕ). counted (eqb (get_or m i 0) 0) 1 + tally (λ b. eqb b 0) (λ _. 1) (drop x (take n m))) (sym (add-one i))
-
-  pub summed_zero : i < n → get_or m i 0 ≡ 0 → Summed n m (sum + 1) (i + 1)
-  summed_zero h e =
-      let z : counted (eqb (get_or m i 0) 0) 1 ≡ 1 = ap (λ (b : Bool). counted b 1) (eq-eqb (get_or m i 0) 0 e) in
-      record { few = omega (arith, s.few); whole = omega (arith, s.whole, next h) }
-
-  pub summed_other : i < n → (get_or m i 0 ≡ 0 → ⊥) → Summed n m sum (i + 1)
-  summed_other h e =
-      let z : counted (eqb (get_or m i 0) 0) 1 ≡ 0 = ap (λ (b : Bool). counted b 1) (ne_eqb (get_or m i 0) 0 e) in
-      record { few = omega (arith, s.few); whole = omega (arith, s.whole, next h) }
-
-  pub summed_end : n ≤ i → sum ≡ undecided n m
-  unfolding tally
-  summed_end h =
-      let past : length (take n m) ≤ i = omega (arith, length-take-le n m room) in
-      let z : tally (λ b. eqb b 0) (λ _. 1) (drop i (take n m)) ≡ 0 = ap (tally (λ b. eqb b 0) (λ _. 1))
-      (drop_of_length-le (take n m) past) in
-      omega (arith, s.whole)
+zeros_undecided n m = sym (zeros_same (take n m))

@@ -3,7 +3,7 @@
 -- closed map.
 use Prim.Native.Nat.{ℕ, ◌+◌, ◌≤◌, ◌<◌}
 use mathlib.Core.Path.{◌≡◌, refl, sym, ◌∙◌, subst}
-use mathlib.Core.Bool.{Bool, true, false, cond, false≢true}
+use mathlib.Core.Bool.{Bool, true, false, cond}
 use mathlib.Core.List.{List, Memᴰ}
 use native.Mathlib.Omega.{arith}
 use lib.Dec.{T, eqb}
@@ -19,10 +19,10 @@ use Rattle.rules.proofs.Maps.{want_decided}
 use Rattle.rules.proofs.Forced.{forced_fourth}
 use Rattle.table.specs.Inner.Rows.{row_rule, table_rules}
 use Rattle.table.proofs.Rows.{Standing, rule_stands}
-use Rattle.weigh.specs.Inner.Step.{Concludes, Kept, Till, both, is_clash, is_grew, Forces}
-use Rattle.weigh.specs.declared.Outcome.{Outcome}
-use Rattle.weigh.specs.declared.Outcome.TheVariants.{Clash, Same, Grew}
-use Rattle.weigh.proofs.Steps.{kept_refl, kept_trans, forces_refl, forces_trans, concludes_on, clash_any, steps_begin, steps_more, steps_end}
+use Rattle.weigh.specs.Inner.Step.{Concludes, Kept, Outcome, Till, Forces}
+use Rattle.std.specs.Prelude.{Ok, Err}
+use Rattle.weigh.specs.declared.Clash.{Clash}
+use Rattle.weigh.proofs.Steps.{after, kept_refl, kept_trans, forces_refl, forces_trans, concludes_on, clash_any, steps_begin, steps_more, steps_end}
 use Rattle.forcing.specs.Inner.Ground.{PutsUnless, Unless, Grounding, Grounded, GroundsAll, Blank, ListsFounded, Drops}
 use Rattle.forcing.proofs.Groundings.{sided_out, kept_unless, step_unless}
 
@@ -78,11 +78,9 @@ module _ (c : List ℕ) (n count : ℕ) (m u : List ℕ) where
   founding_begin p = record { kept = kept_refl n u p; forces = forces_refl (Grounding (table_rules c count) (side n m)) (side n u) }
 
   pub founding_more :
-      (u' u'' : List ℕ) (r : Outcome) → is_grew r ≡ true → Founding c n count m u u' → GroundsAll c n count m u' u'' r
+      (u' u'' : List ℕ) → Founding c n count m u u' → GroundsAll c n count m u' u'' (Ok true)
       → Founding c n count m u u'' × (undecided n u'' < undecided n u')
-  founding_more u' u'' Clash e f s = absurd (false≢true e)
-  founding_more u' u'' Same e f s = absurd (false≢true e)
-  founding_more u' u'' Grew e f s = (
+  founding_more u' u'' f s = (
     record {
       kept = kept_trans n u u' u'' f.kept s.kept;
       forces = forces_trans (Grounding (table_rules c count) (side n m)) f.forces s.went.forces;
@@ -117,34 +115,33 @@ module _ (c : List ℕ) (n count : ℕ) (m u : List ℕ) where
             (subst (λ (x : Rule). T (has a x.heads)) s.same t) o)
 
     pub founding_end :
-        (u' u'' : List ℕ) (r : Outcome) → is_grew r ≡ false → Founding c n count m u u' → GroundsAll c n count m u' u'' r
+        (u' u'' : List ℕ) (r : Outcome) → (r ≡ Ok true → ⊥) → Founding c n count m u u' → GroundsAll c n count m u' u'' r
         → ListsFounded c n count m u''
-    founding_end u' u'' Clash e f s =
+    founding_end u' u'' (Err _) e f s =
         absurd (s.went.none (marks (isnt 2 (side n m))) (good) (below u' f (marks (isnt 2 (side n m))) good))
       where
         good : Grounding (table_rules c count) (side n m) (marks (isnt 2 (side n m)))
         good = marks_grounds (table_rules c count) (side n m) (isnt 2 (side n m)) (all_grounds (table_rules c count) (side n m))
-    founding_end u' u'' Same e f s =
+    founding_end u' u'' (Ok false) e f s =
         subst (ListsFounded c n count m) (sym s.went.0) (lists u' f s.went.1)
-    founding_end u' u'' Grew e f s = absurd (false≢true (sym e))
+    founding_end u' u'' (Ok true) e f s = absurd (e refl)
 
 -- dropping the atoms that are not in U
 module _ (n : ℕ) (u m : List ℕ) (p : MapBytes n m) where
-  pub drop_begin : Drops n u m 1 m Same
+  pub drop_begin : Drops n u m 1 m (Ok false)
   drop_begin = record { kept = kept_refl n m p; step = λ P due. steps_begin (Closed P n) n (λ b. Unless (side n u) b 1 2) 1 m p }
 
   pub drop_more :
-      (a : ℕ) (m' m'' : List ℕ) (r q o : Outcome) → 1 ≤ a → a ≤ n → Drops n u m a m' r → PutsUnless n u a 1 2 m' m'' q → o ≡ both r q
-      → Drops n u m (a + 1) m'' o
-  drop_more a m' m'' r q o l h s t e =
+      (a : ℕ) (m' m'' : List ℕ) (r : Bool) (q : Outcome) → 1 ≤ a → a ≤ n → Drops n u m a m' (Ok r) → PutsUnless n u a 1 2 m' m'' q
+      → Drops n u m (a + 1) m'' (after r q)
+  drop_more a m' m'' r q l h s t =
       record {
         kept = kept_trans n m m' m'' s.kept kept;
         step =
             λ P due.
-            steps_more (Closed P n) n (λ b. Unless (side n u) b 1 2) 1 a m m' m'' r q o (s.step P due) kept
+            steps_more (Closed P n) n (λ b. Unless (side n u) b 1 2) 1 a m m' m'' r q (s.step P due) kept
             (λ up. step_unless n u a 1 2 m' s.kept.proper within sided_out m'' q t (Closed P n)
-            (λ f. concludes_on (Closed P n) up (due a within f)))
-            e;
+            (λ f. concludes_on (Closed P n) up (due a within f)));
       }
     where
       within : Within n a
@@ -153,14 +150,14 @@ module _ (n : ℕ) (u m : List ℕ) (p : MapBytes n m) where
       kept : Kept n m' m''
       kept = kept_unless n u a 1 2 m' s.kept.proper within sided_out m'' q t
 
-  pub drop_clash : (a b : ℕ) (m' : List ℕ) (r : Outcome) → is_clash r ≡ true → Drops n u m a m' r → Drops n u m b m' r
-  drop_clash a b m' r e s =
+  pub drop_clash : (a b : ℕ) (m' : List ℕ) {e : Clash} → Drops n u m a m' (Err e) → Drops n u m b m' (Err e)
+  drop_clash a b m' s =
       record {
         kept = s.kept;
         step =
             λ P due.
-            clash_any (Closed P n) n (Till (λ x. Unless (side n u) x 1 2) 1 a) (Till (λ x. Unless (side n u) x 1 2) 1 b) m m' r
-            e (s.step P due);
+            clash_any (Closed P n) n (Till (λ x. Unless (side n u) x 1 2) 1 a) (Till (λ x. Unless (side n u) x 1 2) 1 b) m m'
+            (s.step P due);
       }
 
   pub drop_end : (a : ℕ) (m' : List ℕ) (r : Outcome) → n ≤ a → Drops n u m (a + 1) m' r → Drops n u m (n + 1) m' r

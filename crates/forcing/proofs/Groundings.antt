@@ -14,14 +14,14 @@ use Rattle.rules.specs.Inner.Bytes.{MapBytes}
 use Rattle.rules.proofs.Tests.{eq_T, T_eq}
 use Rattle.rules.proofs.Value.{by, value_mono}
 use Rattle.table.specs.Inner.Words.{pair_atom}
-use Rattle.table.specs.Inner.Rows.{heads_at, positives_at, need_at, row_rule}
+use Rattle.table.specs.Inner.Rows.{heads_at, positives_at, need_at, row_rule, Row}
 use Rattle.table.proofs.Words.{AtomFound, atoms_listed, atoms_has}
-use Rattle.weigh.specs.Inner.Step.{Concludes, Decided, Kept, Step, Till, Puts, both}
-use Rattle.weigh.specs.declared.Outcome.{Outcome}
-use Rattle.weigh.specs.declared.Outcome.TheVariants.{Same}
+use Rattle.weigh.specs.Inner.Step.{Concludes, Decided, Kept, Outcome, Step, Till, Puts}
+use Rattle.std.specs.Prelude.{Ok, Err}
+use Rattle.weigh.specs.declared.Clash.{Clash}
 use Rattle.weigh.proofs.Bytes.{equal?}
-use Rattle.weigh.proofs.Steps.{kept_refl, kept_trans, kept_put, concludes_on, step_same, quieter, steps_begin, steps_more, steps_end, step_put}
-use Rattle.forcing.specs.Inner.Ground.{PutsUnless, Unless, Grounding, Grounded, Full, Lacks, Misses, GroundAsks, GroundsHeads, GroundsRule}
+use Rattle.weigh.proofs.Steps.{after, kept_refl, kept_trans, kept_put, concludes_on, step_same, quieter, steps_begin, steps_more, steps_end, step_put, clash_any}
+use Rattle.forcing.specs.Inner.Ground.{PutsUnless, Unless, Grounding, Grounded, Full, Lacks, Misses, GroundsHeads, GroundsRule}
 use Rattle.forcing.proofs.HeadScans.{Sofar, scan_more, scan_end}
 
 pub sided_in : Decided 1
@@ -32,7 +32,7 @@ sided_out = record { low = omega arith; high = omega arith }
 
 -- an atom is put unless it has a given side
 module _ (n : ℕ) (m : List ℕ) (a given v : ℕ) (w : List ℕ) where
-  pub unless_there : (x : ℕ) → x ≡ side n m a → x ≡ given → PutsUnless n m a given v w w Same
+  pub unless_there : (x : ℕ) → x ≡ side n m a → x ≡ given → PutsUnless n m a given v w w (Ok false)
   unless_there x ex e = record { there = λ _. (refl, refl); elsewhere = λ f. absurd (f (sym ex ∙ e)) }
 
   pub unless_put :
@@ -63,45 +63,56 @@ module _ (n : ℕ) (m : List ℕ) (a given v : ℕ) (w : List ℕ) where
         (equal? (side n m a) given)
 
 -- the heads of a rule, one after another
-module _ (c : List ℕ) (n i : ℕ) (m u : List ℕ) (asks : GroundAsks c n i m u) where
-  pub heads_begin : (j : ℕ) → j ≡ heads_at c i → GroundsHeads c n i m u j u Same
+module _ (c : List ℕ) (n i : ℕ) (m u : List ℕ) (row : Row c n i) (space : MapBytes n u) where
+  pub heads_begin : (j : ℕ) → j ≡ heads_at c i → GroundsHeads c n i m u j u (Ok false)
   heads_begin j e =
       record {
-        kept = kept_refl n u asks.space;
+        kept = kept_refl n u space;
         step =
             λ P due.
             subst
             (λ (x : ℕ). Step (Grounding P (side n m)) n (Till (λ k. Unless (side n m) (pair_atom c k) 2 1) (heads_at c i) x) u u
-            Same)
+            (Ok false))
             (sym e)
-            (steps_begin (Grounding P (side n m)) n (λ k. Unless (side n m) (pair_atom c k) 2 1) (heads_at c i) u asks.space);
+            (steps_begin (Grounding P (side n m)) n (λ k. Unless (side n m) (pair_atom c k) 2 1) (heads_at c i) u space);
       }
 
   pub heads_more :
-      (j a : ℕ) (u' u'' : List ℕ) (r q o : Outcome) → heads_at c i ≤ j → j < positives_at c i → a ≡ pair_atom c j
-      → GroundsHeads c n i m u j u' r → PutsUnless n m a 2 1 u' u'' q → o ≡ both r q → GroundsHeads c n i m u (j + 1) u'' o
-  heads_more j a u' u'' r q o l h ea s p e =
+      (j a : ℕ) (u' u'' : List ℕ) (r : Bool) (q : Outcome) → heads_at c i ≤ j → j < positives_at c i → a ≡ pair_atom c j
+      → GroundsHeads c n i m u j u' (Ok r) → PutsUnless n m a 2 1 u' u'' q → GroundsHeads c n i m u (j + 1) u'' (after r q)
+  heads_more j a u' u'' r q l h ea s p =
       record {
         kept = kept_trans n u u' u'' s.kept kept;
         step =
             λ P due.
-            steps_more (Grounding P (side n m)) n (λ k. Unless (side n m) (pair_atom c k) 2 1) (heads_at c i) j u u' u'' r q o
+            steps_more (Grounding P (side n m)) n (λ k. Unless (side n m) (pair_atom c k) 2 1) (heads_at c i) j u u' u'' r q
             (s.step P due) kept
             (λ up.
             step_unless n m (pair_atom c j) 2 1 u' s.kept.proper within sided_in u'' q puts (Grounding P (side n m))
             (λ f. concludes_on (Grounding P (side n m)) up
-            (due (pair_atom c j) (atoms_has c (heads_at c i) (positives_at c i) j (record { low = l; high = h })) f)))
-            e;
+            (due (pair_atom c j) (atoms_has c (heads_at c i) (positives_at c i) j (record { low = l; high = h })) f)));
       }
     where
       within : Within n (pair_atom c j)
-      within = (asks.row.heads.pairs j l h).within
+      within = (row.heads.pairs j l h).within
 
       puts : PutsUnless n m (pair_atom c j) 2 1 u' u'' q
       puts = subst (λ (x : ℕ). PutsUnless n m x 2 1 u' u'' q) ea p
 
       kept : Kept n u' u''
       kept = kept_unless n m (pair_atom c j) 2 1 u' s.kept.proper within sided_in u'' q puts
+
+  -- a clash at a head is one at the heads
+  pub heads_clash :
+      (j : ℕ) (u' : List ℕ) {e : Clash} → GroundsHeads c n i m u j u' (Err e) → GroundsHeads c n i m u (positives_at c i) u' (Err e)
+  heads_clash j u' s =
+      record {
+        kept = s.kept;
+        step =
+            λ P due.
+            clash_any (Grounding P (side n m)) n (Till (λ k. Unless (side n m) (pair_atom c k) 2 1) (heads_at c i) j)
+            (Till (λ k. Unless (side n m) (pair_atom c k) 2 1) (heads_at c i) (positives_at c i)) u u' (s.step P due);
+      }
 
   pub heads_end :
       (j : ℕ) (u' : List ℕ) (r : Outcome) → positives_at c i ≤ j → GroundsHeads c n i m u j u' r
@@ -124,11 +135,10 @@ module _ (c : List ℕ) (n i : ℕ) (m u : List ℕ) (asks : GroundAsks c n i m 
       ap U l.same ∙ all l.at l.among.low l.among.high (λ e. f (ap (side n m) l.same ∙ e))
 
   pub lacks_more :
-      (j : ℕ) (b : Bool) → heads_at c i ≤ j → b ≡ false → Misses (side n m) (side n u) (pair_atom c j) b
-      → Sofar c i (λ a. Unless (side n m) a 2 1 (side n u)) j
-      → (heads_at c i ≤ j + 1) × Sofar c i (λ a. Unless (side n m) a 2 1 (side n u)) (j + 1)
-  lacks_more j b l e t all =
-      scan_more c i (λ a. Unless (side n m) a 2 1 (side n u)) j l
+      (j : ℕ) (b : Bool) → b ≡ false → Misses (side n m) (side n u) (pair_atom c j) b
+      → Sofar c i (λ a. Unless (side n m) a 2 1 (side n u)) j → Sofar c i (λ a. Unless (side n m) a 2 1 (side n u)) (j + 1)
+  lacks_more j b e t all =
+      scan_more c i (λ a. Unless (side n m) a 2 1 (side n u)) j
       (subst (Misses (side n m) (side n u) (pair_atom c j)) e t).tells all
 
   pub lacks_none :
@@ -137,18 +147,18 @@ module _ (c : List ℕ) (n i : ℕ) (m u : List ℕ) (asks : GroundAsks c n i m 
   lacks_none j h all = record { tells = scan_end c i (λ a. Unless (side n m) a 2 1 (side n u)) j h all }
 
   -- one rule
-  left : Grounded (row_rule c i) (side n m) (side n u) → GroundsRule c n i m u u Same
+  left : Grounded (row_rule c i) (side n m) (side n u) → GroundsRule c n i m u u (Ok false)
   left q =
       record {
-        kept = kept_refl n u asks.space;
-        step = λ P b. step_same (Grounding P (side n m)) n (Grounded (row_rule c i) (side n m)) u asks.space q;
+        kept = kept_refl n u space;
+        step = λ P b. step_same (Grounding P (side n m)) n (Grounded (row_rule c i) (side n m)) u space q;
       }
 
-  pub ground_full : (b : Bool) → b ≡ false → Lacks (row_rule c i) (side n m) (side n u) b → GroundsRule c n i m u u Same
+  pub ground_full : (b : Bool) → b ≡ false → Lacks (row_rule c i) (side n m) (side n u) b → GroundsRule c n i m u u (Ok false)
   ground_full b e t = left (λ k. (subst (Lacks (row_rule c i) (side n m) (side n u)) e t).tells)
 
   module _ (need most : ℕ) (en : need ≡ need_at c i) (er : most ≡ value (row_rule c i) (is 1 (side n u)) (isnt 1 (side n m))) where
-    pub ground_short : most < need → GroundsRule c n i m u u Same
+    pub ground_short : most < need → GroundsRule c n i m u u (Ok false)
     ground_short h = left (λ k. absurd (omega arith))
 
     pub ground_give :

@@ -5,8 +5,7 @@ use mathlib.Core.Bool.{Bool, true, false}
 use mathlib.Core.List.{List}
 use native.Mathlib.Omega.{arith}
 use Rattle.rules.specs.Map.{Map}
-use Rattle.weigh.specs.Inner.Step.{Step, Till}
-use Rattle.weigh.specs.declared.Outcome.{Outcome}
+use Rattle.weigh.specs.Inner.Step.{Outcome, Step, Till}
 use Rattle.forcing.specs.Inner.Pass.{placed}
 
 pub placed_less : (down : Bool) (count i : ℕ) → i < count → placed down count i < count

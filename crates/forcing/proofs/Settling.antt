@@ -16,10 +16,9 @@ use Rattle.rules.proofs.Forced.{forced_first, forced_third}
 use Rattle.table.specs.Inner.Words.{pair_atom}
 use Rattle.table.specs.Inner.Rows.{heads_at, positives_at, kind_at, need_at, row_rule, Row}
 use Rattle.table.proofs.Words.{AtomFound, atoms_listed, atoms_has}
-use Rattle.weigh.specs.Inner.Step.{Concludes, Puts}
+use Rattle.weigh.specs.Inner.Step.{Concludes, Outcome, Puts}
 use Rattle.weigh.specs.Inner.Press.{aim, Pressed, Due, PressesBody}
-use Rattle.weigh.specs.declared.Outcome.{Outcome}
-use Rattle.weigh.specs.declared.Outcome.TheVariants.{Same}
+use Rattle.std.specs.Prelude.{Ok}
 use Rattle.weigh.proofs.Steps.{kept_refl, kept_put, step_same, quieter, step_put}
 use Rattle.forcing.specs.Inner.Heads.{Settled, Settles, HeadAsks}
 
@@ -30,10 +29,10 @@ denied false = refl
 
 module _ (c : List ℕ) (n i : ℕ) (m : List ℕ) where
   -- nothing to add, and nothing done
-  left : MapBytes n m → Settled (row_rule c i) (side n m) → Settles c n i m m Same
+  left : MapBytes n m → Settled (row_rule c i) (side n m) → Settles c n i m m (Ok false)
   left p q = record { kept = kept_refl n m p; step = λ P b. step_same (Closed P n) n (Settled (row_rule c i)) m p q }
 
-  pub settle_choice : (b : Bool) → b ≡ chooses (kind_at c i) → b ≡ true → MapBytes n m → Settles c n i m m Same
+  pub settle_choice : (b : Bool) → b ≡ chooses (kind_at c i) → b ≡ true → MapBytes n m → Settles c n i m m (Ok false)
   settle_choice b e t p =
       left p
       (record {
@@ -66,13 +65,13 @@ module _ (c : List ℕ) (n i : ℕ) (m : List ℕ) where
           third = λ g a h o s l b z k. omega (arith, sym o ∙ ap M (head_only a h) ∙ e);
         }
 
-    pub settle_in : (x head : ℕ) → head ≡ pair_atom c (heads_at c i) → x ≡ side n m head → x ≡ 1 → MapBytes n m → Settles c n i m m Same
+    pub settle_in : (x head : ℕ) → head ≡ pair_atom c (heads_at c i) → x ≡ side n m head → x ≡ 1 → MapBytes n m → Settles c n i m m (Ok false)
     settle_in x head eh ex e p = left p (settled_in (side n m) (ap (side n m) (sym eh) ∙ sym ex ∙ e))
 
-  module _ (head x need held : ℕ) (asks : HeadAsks c n i head x m) (en : need ≡ need_at c i)
+  module _ (row : Row c n i) (head x need held : ℕ) (asks : HeadAsks c n i head x m) (en : need ≡ need_at c i)
       (es : held ≡ sure (row_rule c i) (side n m)) where
     out : (a : ℕ) → T (has a (row_rule c i).heads) → side n m a ≡ x
-    out a t = ap (side n m) (head_only asks.row asks.gives a t ∙ sym asks.its) ∙ sym asks.stands
+    out a t = ap (side n m) (head_only row asks.gives a t ∙ sym asks.its) ∙ sym asks.stands
 
     -- sure meets the need: the head is in
     pub settle_give : need ≤ held → (m' : List ℕ) (r : Outcome) → Puts n m head 1 m' r → Settles c n i m m' r
@@ -84,13 +83,13 @@ module _ (c : List ℕ) (n i : ℕ) (m : List ℕ) where
           step =
               λ P b.
               quieter (Closed P n) n (λ M. M (pair_atom c (heads_at c i)) ≡ 1) (Settled (row_rule c i)) m m' r
-              (settled_in asks.row asks.gives (side n m))
+              (settled_in row asks.gives (side n m))
               (step_put (Closed P n) n m (pair_atom c (heads_at c i)) 1 asks.proper within
               (record { low = omega arith; high = omega arith }) (concl P b) m' r puts);
         }
       where
         within : Within n (pair_atom c (heads_at c i))
-        within = head_within asks.row asks.gives
+        within = head_within row asks.gives
 
         puts : Puts n m (pair_atom c (heads_at c i)) 1 m' r
         puts = subst (λ (b : ℕ). Puts n m b 1 m' r) asks.its s
@@ -101,7 +100,7 @@ module _ (c : List ℕ) (n i : ℕ) (m : List ℕ) where
               forced =
                   λ X x f.
                   forced_first f x (row_rule c i) b asks.gives (omega arith) (pair_atom c (heads_at c i))
-                  (head_has asks.row asks.gives);
+                  (head_has row asks.gives);
             }
 
     -- the head is out: the body is denied
@@ -120,8 +119,8 @@ module _ (c : List ℕ) (n i : ℕ) (m : List ℕ) where
             record {
               forced =
                   λ X y f.
-                  forced_third f y (row_rule c i) b asks.gives (pair_atom c (heads_at c i)) (head_has asks.row asks.gives)
-                  (out (pair_atom c (heads_at c i)) (head_has asks.row asks.gives) ∙ o) s l q z (omega arith)
+                  forced_third f y (row_rule c i) b asks.gives (pair_atom c (heads_at c i)) (head_has row asks.gives)
+                  (out (pair_atom c (heads_at c i)) (head_has row asks.gives) ∙ o) s l q z (omega arith)
                   ∙ sym (denied s);
             }
 
@@ -133,7 +132,7 @@ module _ (c : List ℕ) (n i : ℕ) (m : List ℕ) where
             }
 
     -- the head is undecided, and sure too small: nothing to add
-    pub settle_wait : held < need → (x ≡ 2 → ⊥) → Settles c n i m m Same
+    pub settle_wait : held < need → (x ≡ 2 → ⊥) → Settles c n i m m (Ok false)
     settle_wait h o =
         left asks.proper
         (record {

@@ -1,59 +1,54 @@
 // Forcing rules 1 and 3: what a rule that must give its head asks of the head and of the body.
-ghost use Rattle.table.specs.Inner.Rows.{Row, Laid};
 ghost use Rattle.rules.specs.Inner.Bytes.{MapBytes};
 ghost use Rattle.forcing.specs.Inner.Heads.{HeadAsks, Settles, SettlesAll};
 
 use super::pass::place;
-use weigh::{Outcome, is_clash, join, press_body, put, side_of, sure};
+use table::{Table, TableRow};
+use weigh::{Clash, press_body, put, side_of, sure};
 
-// Rule i, which is no choice rule and whose head has side x.
-fn settle_head(code: &[u32], n: u32, i: u32, head: u32, x: u8, m: &mut [u8]) -> Outcome
-    requires { HeadAsks code.now n i head x m.old }
-    ensures { Settles code.now n i m.old m.new result }
+// A rule that is no choice rule and whose head has side x.
+fn settle_head(row: &TableRow, head: u32, x: u8, m: &mut [u8]) -> Result<bool, Clash>
+    requires { HeadAsks row.now.code.now row.now.atoms row.now.at head x m.old }
+    ensures { Settles row.now.code.now row.now.atoms row.now.at m.old m.new result }
 {
-    let need = table::need_at(code, i);
-    let held = sure(code, n, i, m);
+    let need = row.need();
+    let held = sure(row, m);
     if need <= held {
-        return put(m, n, head, 1);
+        return put(m, row.atoms, head, 1);
     }
     let is_out = x == 2;
     if is_out {
-        return press_body(code, n, i, need - held, false, m);
+        return press_body(row, need - held, false, m);
     }
-    Outcome::Same
+    Ok(false)
 }
 
-// Rule i: a body that is sure gives the head, and a head that is out denies the body.
-fn settle(code: &[u32], n: u32, i: u32, m: &mut [u8]) -> Outcome
-    requires { Row code.now n i × MapBytes n m.old }
-    ensures { Settles code.now n i m.old m.new result }
+// A rule: a body that is sure gives the head, and a head that is out denies the body.
+fn settle(row: &TableRow, m: &mut [u8]) -> Result<bool, Clash>
+    requires { MapBytes row.now.atoms m.old }
+    ensures { Settles row.now.code.now row.now.atoms row.now.at m.old m.new result }
 {
-    if table::is_choice(code, i) {
-        return Outcome::Same;
+    if row.is_choice() {
+        return Ok(false);
     }
-    let head = table::atom_at(code, table::heads_at(code, i));
-    let x = side_of(m, n, head);
+    let head = table::atom_at(row.code, row.heads());
+    let x = side_of(m, row.atoms, head);
     let is_in = x == 1;
     if is_in {
-        return Outcome::Same;
+        return Ok(false);
     }
-    settle_head(code, n, i, head, x, m)
+    settle_head(row, head, x, m)
 }
 
 // Every rule, one after another, up or down.
-pub fn settle_all(code: &[u32], n: u32, count: u32, down: bool, m: &mut [u8]) -> Outcome
-    requires { Laid code.now n count × MapBytes n m.old }
-    ensures { SettlesAll code.now n count m.old m.new result }
+pub fn settle_all(t: &Table, down: bool, m: &mut [u8]) -> Result<bool, Clash>
+    requires { MapBytes t.now.atoms m.old }
+    ensures { SettlesAll t.now.code.now t.now.atoms t.now.rules m.old m.new result }
 {
-    let mut all = Outcome::Same;
-    let mut i: u32 = 0;
-    while i < count {
-        let one = settle(code, n, place(count, i, down), m);
-        all = join(all, one);
-        if is_clash(all) {
-            return all;
-        }
-        i += 1;
+    let mut grew = false;
+    for i in 0..t.rules {
+        let row = t.row(place(t.rules, i, down));
+        grew |= settle(&row, m)?;
     }
-    all
+    Ok(grew)
 }

@@ -1,51 +1,49 @@
 // Closing a map: the forcing rules, one pass after another, until none adds anything.
-ghost use Rattle.std.specs.Prelude.{◌≡◌};
+ghost use Rattle.std.specs.Prelude.{◌≤◌, ◌≡◌, ◌==◌, count_by, length};
 ghost use Rattle.rules.specs.Forcing.{Closed};
-ghost use Rattle.table.specs.Inner.Rows.{table_rules, Laid};
+ghost use Rattle.table.specs.Inner.Rows.{table_rules};
 ghost use Rattle.rules.specs.Inner.Bytes.{Room, MapBytes};
 ghost use Rattle.rules.specs.Map.{undecided};
 ghost use Rattle.forcing.specs.Inner.Rounds.{FirstWith, LowestAt, Forcing, BackedAll, FoundedAll, ClosesMap};
 
-use super::Closing;
 use super::ground::{drop_all, founded};
 use super::heads::settle_all;
 use super::support::{back_all, count_all};
 use rules::Atom;
-use weigh::{Outcome, is_clash, is_grew, is_same};
+use table::Table;
+use weigh::Clash;
+
+// How many bytes are 0.
+fn zeros(bytes: &[u8]) -> usize
+    ensures few { result ≤ length bytes.now }
+    ensures counted { result ≡ count_by (λ x. x == 0) bytes.now }
+{
+    bytes.iter().filter(|x| **x == 0).count()
+}
 
 // How many of the n atoms are undecided.
 pub fn count_undecided(m: &[u8], n: u32) -> u32
     requires { Room n m.now }
     ensures { result ≡ undecided n m.now }
 {
-    let mut sum: u32 = 0;
-    let mut i: u32 = 0;
-    while i < n {
-        if m[i as usize] == 0 {
-            sum += 1;
-        }
-        i += 1;
-    }
-    sum
+    zeros(&m[..n as usize]) as u32
 }
 
-// The index of the first of n bytes that is v, or n.
-fn first_with(m: &[u8], n: u32, v: u8) -> u32
+// The index of the first of n bytes that is v.
+fn first_with(m: &[u8], n: u32, v: u8) -> Option<u32>
     requires { Room n m.now }
     ensures { FirstWith v n m.now result }
 {
-    let mut i: u32 = 0;
-    while i < n {
+    for i in 0..n {
         if m[i as usize] == v {
-            return i;
+            return Some(i);
         }
-        i += 1;
     }
-    i
+    None
 }
 
-// The index of the lowest undecided atom, or n.
-pub fn lowest(m: &[u8], n: u32) -> u32
+// The index of the lowest undecided atom.
+pub fn lowest(m: &[u8], n: u32) -> Option<u32>
     requires { Room n m.now }
     ensures { LowestAt n m.now result }
 {
@@ -53,69 +51,54 @@ pub fn lowest(m: &[u8], n: u32) -> u32
 }
 
 // Forcing rule 2 at every rule: nothing where no atom is in, every atom is decided, or no atom has one rule.
-fn back_round(code: &[u32], n: u32, count: u32, m: &mut [u8]) -> Outcome
-    requires { Laid code.now n count × MapBytes n m.old }
-    ensures { Forcing code.now n count (BackedAll code.now count) m.old m.new result }
+fn back_round(t: &Table, m: &mut [u8]) -> Result<bool, Clash>
+    requires { MapBytes t.now.atoms m.old }
+    ensures { Forcing t.now.code.now t.now.atoms t.now.rules (BackedAll t.now.code.now t.now.rules) m.old m.new result }
 {
-    if first_with(m, n, 1) == n {
-        return Outcome::Same;
+    if first_with(m, t.atoms, 1).is_none() {
+        return Ok(false);
     }
-    let first_open = lowest(m, n);
-    let is_whole = first_open == n;
+    let first_open = lowest(m, t.atoms);
+    let is_whole = first_open.is_none();
     if is_whole {
-        return Outcome::Same;
+        return Ok(false);
     }
     let mut counts = [0u8; Atom::LAST];
-    count_all(code, n, count, m, &mut counts);
-    if first_with(&counts, n, 1) == n {
-        return Outcome::Same;
+    count_all(t, m, &mut counts);
+    if first_with(&counts, t.atoms, 1).is_none() {
+        return Ok(false);
     }
-    back_all(code, n, count, &counts, m)
+    back_all(t, &counts, m)
 }
 
 // Forcing rule 4 at every atom.
-fn drop_round(code: &[u32], n: u32, count: u32, m: &mut [u8]) -> Outcome
-    requires { Laid code.now n count × MapBytes n m.old }
-    ensures { Forcing code.now n count (FoundedAll code.now n count) m.old m.new result }
+fn drop_round(t: &Table, m: &mut [u8]) -> Result<bool, Clash>
+    requires { MapBytes t.now.atoms m.old }
+    ensures { Forcing t.now.code.now t.now.atoms t.now.rules (FoundedAll t.now.code.now t.now.atoms t.now.rules) m.old m.new result }
 {
     let mut u = [0u8; Atom::LAST];
-    founded(code, n, count, m, &mut u);
-    drop_all(n, &u, m)
+    founded(t, m, &mut u);
+    drop_all(t.atoms, &u, m)
 }
 
 // The four forcing rules, each only where those before it add nothing: rule 2 most often answers a guess, rule 4 decides many atoms
 // at once, and rules 1 and 3 one after another.
-fn round(code: &[u32], n: u32, count: u32, down: bool, m: &mut [u8]) -> Outcome
-    requires { Laid code.now n count × MapBytes n m.old }
-    ensures { Forcing code.now n count (Closed (table_rules code.now count) n) m.old m.new result }
+fn round(t: &Table, down: bool, m: &mut [u8]) -> Result<bool, Clash>
+    requires { MapBytes t.now.atoms m.old }
+    ensures { Forcing t.now.code.now t.now.atoms t.now.rules (Closed (table_rules t.now.code.now t.now.rules) t.now.atoms) m.old m.new result }
 {
-    let first = back_round(code, n, count, m);
-    if is_same(first) {
-        let second = drop_round(code, n, count, m);
-        if is_same(second) {
-            return settle_all(code, n, count, down, m);
-        }
-        return second;
-    }
-    first
+    Ok(back_round(t, m)? || drop_round(t, m)? || settle_all(t, down, m)?)
 }
 
-// The smallest closed map that holds m, in its place, with the number of its undecided atoms; or that no closed map holds m, and
-// then the n bytes are of no use.
-pub fn close(code: &[u32], n: u32, count: u32, m: &mut [u8]) -> Closing
-    requires { Laid code.now n count × MapBytes n m.old }
-    ensures { ClosesMap code.now n count m.old m.new result }
+// The smallest closed map that holds m, in its place, with the number of its undecided atoms; where no closed map holds m, the n bytes
+// are of no use.
+pub fn close(t: &Table, m: &mut [u8]) -> Result<u32, Clash>
+    requires { MapBytes t.now.atoms m.old }
+    ensures { ClosesMap t.now.code.now t.now.atoms t.now.rules m.old m.new result }
 {
     let mut down = false;
-    loop {
-        let one = round(code, n, count, down, m);
-        if is_grew(one) {
-            down = !down;
-            continue;
-        }
-        if is_clash(one) {
-            return Closing::NoneHolds;
-        }
-        return Closing::ClosedWith(count_undecided(m, n));
+    while round(t, down, m)? {
+        down = !down;
     }
+    Ok(count_undecided(m, t.atoms))
 }

@@ -1,5 +1,4 @@
-pub mod Ways
-pub mod Goes
+pub mod Tests
 pub mod Calls
 pub mod Past
 pub mod Places

@@ -1,79 +1,96 @@
 -- "Each returns its number and a place. Number 9 is tested first, then the sheet in reading order, then 10, 11, 13, 12, 14, as far as the
--- call has such an input." What stops a call, or the sheet and the task on which it goes on.
-use Rattle.std.specs.Prelude.{ℕ, Bool, ◌&&◌, List, length, ltb, eqb}
+-- call has such an input." What stops a call, or the sheet on which it goes on.
+use Rattle.std.specs.Prelude.{ℕ, Bool, not, ◌&&◌, List, [], ◌∷◌, length, ltb, eqb, Result, Ok, Err}
 use Rattle.rules.specs.Sum.{pick}
 use Rattle.rules.specs.Map.{inside}
-use Rattle.numbers.specs.Answer.{refusal}
-use Rattle.sheet.specs.Sheet.{sheet_read, sheet_then}
+use Rattle.rules.specs.declared.RuleNo.{RuleNo}
+use Rattle.numbers.specs.Answer.{refusal, read_then}
+use Rattle.numbers.specs.declared.Refusal.{Refusal}
+use Rattle.numbers.specs.declared.reason.Reason.TheVariants.{MapTooShort, BadPin, BadMapByte, NoRule, MarginOnContradiction}
+use Rattle.sheet.specs.Sheet.{sheet_read}
 use Rattle.sheet.specs.declared.Outline.{Outline}
 use Rattle.gate.specs.Scan.{map_fault, model_fault, is_contradiction}
-use Rattle.gate.specs.declared.Ask.{Ask}
-use Rattle.gate.specs.declared.Ask.TheVariants.{Margin, Part}
-use Rattle.gate.specs.declared.Task.{Task}
-use Rattle.gate.specs.declared.Task.TheVariants.{Stay, Open, Pin, Solve, Test, Rule}
-use Rattle.gate.specs.declared.Gate.{Gate}
-use Rattle.gate.specs.declared.Gate.TheVariants.{Stop, Go}
+use Rattle.gate.specs.declared.Pin.{Pin}
 
--- what comes after a gate that lets the call go on
-unfoldable pub go_then : Gate → (Outline → Task → Gate) → Gate
-go_then (Stop why) next = Stop why
-go_then (Go o task) next = next o task
+-- a test of a call: it is stopped by a refusal, or goes on
+abbrev pub Test : Type 0
+Test = Result Unit Refusal
 
--- the sheet's own refusals
-unfoldable pub sheet_gate : List ℕ → Task → Gate
-sheet_gate s task = sheet_then Stop (sheet_read s) (λ o. Go o task)
+unfoldable pub stop_if : Bool → Refusal → Test
+stop_if b why = pick b (Err why) (Ok tt)
 
 -- 10: "map shorter than n", at 0
-unfoldable pub then_room : Gate → List ℕ → Gate
-then_room g m = go_then g (λ o task. pick (ltb (length m) o.atoms) (Stop (refusal 10 0)) (Go o task))
+abbrev pub room : ℕ → List ℕ → Test
+room n m = stop_if (ltb (length m) n) (refusal MapTooShort 0)
 
 -- an atom of 1 to n, and side 1 or 2
 abbrev pub is_pin : ℕ → ℕ → ℕ → Bool
 is_pin n a v = inside n a && inside 2 v
 
--- 11: "pinned atom 0 or above n, or side not 1 or 2", at 0; 1 is in and 2 is out
-unfoldable pub then_pin : Gate → ℕ → ℕ → Gate
-then_pin g a v =
-    go_then g (λ o task. pick (is_pin o.atoms a v) (Go o (Pin (record { number = a }) (eqb v 1))) (Stop (refusal 11 0)))
+-- 11: "pinned atom 0 or above n, or side not 1 or 2", at 0
+abbrev pub pin : ℕ → ℕ → ℕ → Test
+pin n a v = stop_if (not (is_pin n a v)) (refusal BadPin 0)
 
 -- 13: "rule number 0 or above the rule count", at 0
-unfoldable pub then_rule : Gate → ℕ → Ask → Gate
-then_rule g k ask =
-    go_then g (λ o task. pick (inside o.rules.value k) (Go o (Rule (record { number = k }) ask)) (Stop (refusal 13 0)))
+abbrev pub rule : ℕ → ℕ → Test
+rule count k = stop_if (not (inside count k)) (refusal NoRule 0)
 
 -- 12: "map byte not allowed", at its index
-abbrev pub or_fault : ℕ → ℕ → Gate → Gate
-or_fault place n g = pick (ltb place n) (Stop (refusal 12 place)) g
+abbrev pub no_fault : ℕ → ℕ → Test
+no_fault n place = stop_if (ltb place n) (refusal BadMapByte place)
 
-unfoldable pub then_map : Gate → List ℕ → Gate
-then_map g m = go_then g (λ o task. or_fault (map_fault o.atoms m) o.atoms (Go o task))
+abbrev pub map_bytes : ℕ → List ℕ → Test
+map_bytes n m = no_fault n (map_fault n m)
 
-unfoldable pub then_model : Gate → List ℕ → Gate
-then_model g m = go_then g (λ o task. or_fault (model_fault o.atoms m) o.atoms (Go o task))
+abbrev pub model_bytes : ℕ → List ℕ → Test
+model_bytes n m = no_fault n (model_fault n m)
 
 -- 14: "margin asked on a contradiction", at 0
-unfoldable pub then_margin : Gate → List ℕ → Gate
-then_margin g m = go_then g (λ o task. pick (is_contradiction o.atoms m) (Stop (refusal 14 0)) (Go o task))
+abbrev pub no_contradiction : ℕ → List ℕ → Test
+no_contradiction n m = stop_if (is_contradiction n m) (refusal MarginOnContradiction 0)
 
--- "A pin on a contradiction answers contradiction again."
-unfoldable pub then_stay : Gate → List ℕ → Gate
-then_stay g m = go_then g (λ o task. pick (is_contradiction o.atoms m) (Go o Stay) (Go o task))
+-- the sheet, unless one of so many tests stops the call: the first that does
+unfoldable pub tested : List Test → Outline → Result Outline Refusal
+tested [] o = Ok o
+tested (t ∷ ts) o = read_then Err t (λ _. tested ts o)
 
--- the gates of the calls
-unfoldable pub open_gate : List ℕ → List ℕ → Gate
-open_gate s m = then_room (sheet_gate s Open) m
+-- the sheet's own refusals, and then those of the call's tests
+unfoldable pub gate : List ℕ → (Outline → List Test) → Result Outline Refusal
+gate s tests = read_then Err (sheet_read s) (λ o. tested (tests o) o)
 
-unfoldable pub solve_gate : List ℕ → List ℕ → Gate
-solve_gate s m = then_room (sheet_gate s Solve) m
+-- the gates of the calls: of one that writes the map and does not read it, and of the others
+abbrev pub room_gate : List ℕ → List ℕ → Result Outline Refusal
+room_gate s m = gate s (λ o. room o.atoms m ∷ [])
 
-unfoldable pub test_gate : List ℕ → List ℕ → Gate
-test_gate s m = then_model (then_room (sheet_gate s Test) m) m
+abbrev pub test_gate : List ℕ → List ℕ → Result Outline Refusal
+test_gate s m = gate s (λ o. room o.atoms m ∷ model_bytes o.atoms m ∷ [])
 
-unfoldable pub pin_gate : List ℕ → List ℕ → ℕ → ℕ → Gate
-pin_gate s m a v = then_stay (then_map (then_pin (then_room (sheet_gate s Stay) m) a v) m) m
+abbrev pub pin_gate : List ℕ → List ℕ → ℕ → ℕ → Result Outline Refusal
+pin_gate s m a v = gate s (λ o. room o.atoms m ∷ pin o.atoms a v ∷ map_bytes o.atoms m ∷ [])
 
-unfoldable pub margin_gate : List ℕ → List ℕ → ℕ → Gate
-margin_gate s m k = then_margin (then_map (then_rule (then_room (sheet_gate s Stay) m) k Margin) m) m
+abbrev pub margin_gate : List ℕ → List ℕ → ℕ → Result Outline Refusal
+margin_gate s m k =
+    gate s (λ o. room o.atoms m ∷ rule o.rules.value k ∷ map_bytes o.atoms m ∷ no_contradiction o.atoms m ∷ [])
 
-unfoldable pub part_gate : List ℕ → ℕ → ℕ → ℕ → Gate
-part_gate s k p i = then_rule (sheet_gate s Stay) k (Part p i)
+abbrev pub part_gate : List ℕ → ℕ → Result Outline Refusal
+part_gate s k = gate s (λ o. rule o.rules.value k ∷ [])
+
+-- the pin and the rule that two numbers and a number stand for; 1 is in and 2 is out
+abbrev pub pin_of : ℕ → ℕ → Pin
+pin_of a v = record { atom = record { number = a }; inside = eqb v 1 }
+
+abbrev pub rule_of : ℕ → RuleNo
+rule_of k = record { number = k }
+
+-- a value, where a test lets the call go on; and beside the sheet
+unfoldable pub then_give : {A B : Type 0} → B → Result A Refusal → Result B Refusal
+then_give x t = read_then Err t (λ _. Ok x)
+
+unfoldable pub beside : {B : Type 0} → B → Result Outline Refusal → Result (Outline × B) Refusal
+beside x g = read_then Err g (λ o. Ok (o, x))
+
+abbrev pub with_pin : ℕ → ℕ → Result Outline Refusal → Result (Outline × Pin) Refusal
+with_pin a v g = beside (pin_of a v) g
+
+abbrev pub with_rule : ℕ → Result Outline Refusal → Result (Outline × RuleNo) Refusal
+with_rule k g = beside (rule_of k) g

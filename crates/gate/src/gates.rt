@@ -1,52 +1,63 @@
 // The gates of the calls: "Number 9 is tested first, then the sheet in reading order, then 10, 11, 13, 12, 14, as far as the call has such
-// an input."
+// an input." Each hands on the sheet, and the pin or the rule that was let through with it.
 ghost use Rattle.std.specs.Prelude.{◌≡◌};
-ghost use Rattle.gate.specs.Gate.{open_gate, solve_gate, test_gate, pin_gate, margin_gate, part_gate};
+ghost use Rattle.gate.specs.Gate.{room_gate, test_gate, pin_gate, margin_gate, part_gate, with_pin, with_rule};
 
-use super::steps::{
-    map_bytes, model_bytes, no_contradiction, pin, room, rule, sheet_gate, stay_contradiction,
-};
-use super::{Ask, Gate, Task};
+use super::Pin;
+use super::steps::{map_bytes, model_bytes, no_contradiction, pin, room, rule};
+use numbers::Refusal;
+use rules::RuleNo;
+use sheet::{Outline, read_sheet};
 
-pub fn open_gate(s: &[u8], m: &[u8]) -> Gate
-    ensures { result ≡ open_gate s.now m.now }
+// The gate of a call that writes the map and does not read it.
+#[tactic(auto, unfolding(crate::specs::Gate::gate, crate::specs::Gate::tested, numbers::specs::Answer::read_then))]
+pub fn room_gate(s: &[u8], m: &[u8]) -> Result<Outline, Refusal>
+    ensures { result ≡ room_gate s.now m.now }
 {
-    room(sheet_gate(s, Task::Open), m)
+    let sheet = read_sheet(s)?;
+    room(sheet.atoms, m)?;
+    Ok(sheet)
 }
 
-pub fn solve_gate(s: &[u8], m: &[u8]) -> Gate
-    ensures { result ≡ solve_gate s.now m.now }
-{
-    room(sheet_gate(s, Task::Solve), m)
-}
-
-pub fn test_gate(s: &[u8], m: &[u8]) -> Gate
+#[tactic(auto, unfolding(crate::specs::Gate::gate, crate::specs::Gate::tested, numbers::specs::Answer::read_then))]
+pub fn test_gate(s: &[u8], m: &[u8]) -> Result<Outline, Refusal>
     ensures { result ≡ test_gate s.now m.now }
 {
-    let roomy = room(sheet_gate(s, Task::Test), m);
-    model_bytes(roomy, m)
+    let sheet = read_sheet(s)?;
+    let n = sheet.atoms;
+    room(n, m)?;
+    model_bytes(n, m)?;
+    Ok(sheet)
 }
 
-pub fn pin_gate(s: &[u8], m: &[u8], atom: usize, side: usize) -> Gate
-    ensures { result ≡ pin_gate s.now m.now atom side }
+#[tactic(auto, unfolding(crate::specs::Gate::gate, crate::specs::Gate::tested, crate::specs::Gate::beside, crate::specs::Gate::then_give, numbers::specs::Answer::read_then))]
+pub fn pin_gate(s: &[u8], m: &[u8], atom: usize, side: usize) -> Result<(Outline, Pin), Refusal>
+    ensures { result ≡ with_pin atom side (pin_gate s.now m.now atom side) }
 {
-    let roomy = room(sheet_gate(s, Task::Stay), m);
-    let pinned = pin(roomy, atom, side);
-    let allowed = map_bytes(pinned, m);
-    stay_contradiction(allowed, m)
+    let sheet = read_sheet(s)?;
+    room(sheet.atoms, m)?;
+    let pinned = pin(sheet.atoms, atom, side)?;
+    map_bytes(sheet.atoms, m)?;
+    Ok((sheet, pinned))
 }
 
-pub fn margin_gate(s: &[u8], m: &[u8], number: usize) -> Gate
-    ensures { result ≡ margin_gate s.now m.now number }
+#[tactic(auto, unfolding(crate::specs::Gate::gate, crate::specs::Gate::tested, crate::specs::Gate::beside, crate::specs::Gate::then_give, numbers::specs::Answer::read_then))]
+pub fn margin_gate(s: &[u8], m: &[u8], number: usize) -> Result<(Outline, RuleNo), Refusal>
+    ensures { result ≡ with_rule number (margin_gate s.now m.now number) }
 {
-    let roomy = room(sheet_gate(s, Task::Stay), m);
-    let numbered = rule(roomy, number, Ask::Margin);
-    let allowed = map_bytes(numbered, m);
-    no_contradiction(allowed, m)
+    let sheet = read_sheet(s)?;
+    room(sheet.atoms, m)?;
+    let asked = rule(sheet.rules.value, number)?;
+    let n = sheet.atoms;
+    map_bytes(n, m)?;
+    no_contradiction(n, m)?;
+    Ok((sheet, asked))
 }
 
-pub fn part_gate(s: &[u8], number: usize, part: usize, index: usize) -> Gate
-    ensures { result ≡ part_gate s.now number part index }
+#[tactic(auto, unfolding(crate::specs::Gate::gate, crate::specs::Gate::tested, crate::specs::Gate::beside, crate::specs::Gate::then_give, numbers::specs::Answer::read_then))]
+pub fn part_gate(s: &[u8], number: usize) -> Result<(Outline, RuleNo), Refusal>
+    ensures { result ≡ with_rule number (part_gate s.now number) }
 {
-    rule(sheet_gate(s, Task::Stay), number, Ask::Part(part, index))
+    let sheet = read_sheet(s)?;
+    Ok((sheet, rule(sheet.rules.value, number)?))
 }

@@ -5,16 +5,17 @@ ghost use Rattle.gate.specs.Scan.{between, first_fault, map_fault, model_fault, 
 fn byte_at(m: &[u8], i: usize) -> u8
     ensures { result ≡ get_or m.now i 0 }
 {
-    if i < m.len() { m[i] } else { 0 }
+    m.get(i).copied().unwrap_or(0)
 }
 
 fn is_between(low: u8, high: u8, b: u8) -> bool
     ensures { result ≡ between low high b }
 {
-    if low <= b { b <= high } else { false }
+    (low..=high).contains(&b)
 }
 
-// The first of n bytes that is not from low to high, or n: a check of the whole map, from which the place is handed out.
+// The first of n bytes that is not from low to high, or n: a check of the whole map, from which the place is handed out. The labelled loop that
+// yields it by break is the form that the scope paper names for this place.
 fn first_fault(m: &[u8], n: usize, low: u8, high: u8) -> usize
     ensures { result ≡ first_fault (between low high) n m.now }
 {
@@ -59,9 +60,5 @@ pub fn model_fault(m: &[u8], n: usize) -> usize
 pub fn is_contradiction(m: &[u8], n: usize) -> bool
     ensures { result ≡ is_contradiction n m.now }
 {
-    if 0 < n {
-        first_fault(m, n, 3, 3) == n
-    } else {
-        false
-    }
+    0 < n && first_fault(m, n, 3, 3) == n
 }

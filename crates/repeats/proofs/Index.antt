@@ -6,7 +6,8 @@ use Rattle.rules.specs.Rule.{Rule}
 use Rattle.rules.proofs.Tests.{below?}
 use Rattle.table.specs.Inner.Rows.{row_rule}
 use Rattle.repeats.specs.Inner.Marks.{slot_count, rule_mark}
-use Rattle.repeats.specs.Inner.Slots.{Reaches, Indexed}
+use Rattle.repeats.specs.declared.slots.Kept.{Kept}
+use Rattle.repeats.specs.Inner.Slots.{Reaches, Indexed, nothing_kept}
 
 zeros : (n x : ℕ) → ◌≡◌ {A = ℕ} (get_or (replicate n 0) x 0) 0
 zeros n x =
@@ -14,7 +15,8 @@ zeros n x =
     (λ (l : n ≤ x). get_or-eq_default (replicate n 0) 0 (omega (arith, length-replicate {A = ℕ} n 0)))
     (below? x n)
 
-pub index_begin : (c : List ℕ) → Indexed c (replicate slot_count 0) (replicate rules_most 0) 0
+pub index_begin : (c : List ℕ) → Indexed c nothing_kept 0
+unfolding nothing_kept
 index_begin c =
     record {
       slots_long = length-replicate slot_count 0;
@@ -25,8 +27,8 @@ index_begin c =
     }
 
 pub index_kept :
-    {c d slots links : List ℕ} {k : ℕ} → ((q : ℕ) → q < k → row_rule d q ≡ row_rule c q) → Indexed c slots links k → Indexed d slots links k
-index_kept {c} {d} {slots} {links} same index =
+    {c d : List ℕ} {kept : Kept} {k : ℕ} → ((q : ℕ) → q < k → row_rule d q ≡ row_rule c q) → Indexed c kept k → Indexed d kept k
+index_kept {kept = kept} same index =
     record {
       slots_long = index.slots_long;
       links_long = index.links_long;
@@ -34,5 +36,5 @@ index_kept {c} {d} {slots} {links} same index =
       down = index.down;
       entered =
           λ p h.
-          subst (λ (r : Rule). Reaches links p (get_or slots (rule_mark r % slot_count) 0)) (sym (same p h)) (index.entered p h);
+          subst (λ (r : Rule). Reaches kept.links p (get_or kept.slots (rule_mark r % slot_count) 0)) (sym (same p h)) (index.entered p h);
     }

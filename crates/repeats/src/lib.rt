@@ -6,7 +6,7 @@ pub mod same;
 pub mod slots;
 
 pub use marks::{carried, mixed};
-pub use slots::keep;
+pub use slots::Kept;
 
 // How many slots rows are entered in.
 pub const SLOTS: usize = 8_192;

@@ -1,44 +1,65 @@
 // The rows that are kept, each entered in a slot and linked to the row that was there before.
-ghost use Rattle.repeats.specs.Inner.Slots.{FindAsks, Finds, EnterAsks, Enters, KeepAsks, KeptOnce};
+ghost use Rattle.std.specs.Prelude.{◌≡◌};
+ghost use Rattle.repeats.specs.Inner.Slots.{nothing_kept, FindAsks, Finds, EnterAsks, entered_in, KeepAsks, KeptOnce};
 
 use super::SLOTS;
 use super::same::same_rule;
+use rules::RuleNo;
 
-// The row before k, among those met from the row of this number on, that has row k's rule; or k.
-fn find(code: &[u32], links: &[u16], k: u32, from: u16) -> u32
-    requires { FindAsks code.now links.now k from }
-    ensures { Finds code.now links.now k from result }
-{
-    let mut number = from;
-    while number != 0 {
-        let row = (number - 1) as u32;
-        if same_rule(code, row, k) {
+// No heap: rows are linked by numbers, in arrays of fixed size. A slot and a link hold the number of a row, 1 for the first, or 0.
+#[derive(Drop)]
+pub struct Kept {
+    slots: [u16; SLOTS],
+    links: [u16; RuleNo::LAST],
+}
+
+impl Kept {
+    #[tactic(auto, unfolding(crate::specs::Inner::Slots::nothing_kept, crate::specs::Inner::Marks::slot_count, rules::specs::Limits::rules_most))]
+    pub fn new() -> Kept
+        ensures { result ≡ nothing_kept }
+    {
+        Kept {
+            slots: [0; SLOTS],
+            links: [0; RuleNo::LAST],
+        }
+    }
+
+    // The row before k, among those met from the row of this number on, that has row k's rule.
+    fn find(&self, code: &[u32], k: u32, from: u16) -> Option<u32>
+        requires { FindAsks code.now self.now k from }
+        ensures { Finds code.now self.now k from result }
+    {
+        let mut number = from;
+        while number != 0 {
+            let row = u32::from(number - 1);
+            if same_rule(code, row, k) {
+                return Some(row);
+            }
+            number = self.links[row as usize];
+        }
+        None
+    }
+
+    // Row k, entered in a slot.
+    #[tactic(auto, unfolding(crate::specs::Inner::Marks::slot_count, rules::specs::Limits::rules_most))]
+    fn enter(&mut self, slot: usize, k: u32)
+        requires { EnterAsks slot k }
+        ensures { self.new ≡ entered_in self.old slot k }
+    {
+        self.links[k as usize] = self.slots[slot];
+        self.slots[slot] = (k + 1) as u16;
+    }
+
+    // The row that has row k's rule, of this mark: one before it, or row k itself, which is then entered.
+    pub fn keep(&mut self, code: &[u32], k: u32, mark: usize) -> u32
+        requires { KeepAsks code.now self.old k mark }
+        ensures { KeptOnce code.now k self.old self.new result }
+    {
+        let slot = mark % SLOTS;
+        if let Some(row) = self.find(code, k, self.slots[slot]) {
             return row;
         }
-        number = links[row as usize];
+        self.enter(slot, k);
+        k
     }
-    k
-}
-
-// Row k, entered in a slot.
-fn enter(slots: &mut [u16], links: &mut [u16], slot: usize, k: u32)
-    requires { EnterAsks slots.old links.old slot k }
-    ensures { Enters slots.old links.old slot k slots.new links.new }
-{
-    links[k as usize] = slots[slot];
-    slots[slot] = (k + 1) as u16;
-}
-
-// The row that has row k's rule, of this mark: one before it, or row k itself, which is then entered.
-pub fn keep(code: &[u32], k: u32, mark: usize, slots: &mut [u16], links: &mut [u16]) -> u32
-    requires { KeepAsks code.now slots.old links.old k mark }
-    ensures { KeptOnce code.now k slots.old links.old slots.new links.new result }
-{
-    let slot = mark % SLOTS;
-    let found = find(code, links, k, slots[slot]);
-    if found < k {
-        return found;
-    }
-    enter(slots, links, slot, k);
-    k
 }

@@ -5,7 +5,9 @@ use mathlib.Core.Bool.{Bool, true, false, ◌&&◌}
 use mathlib.Core.List.{List, [], ◌∷◌}
 use native.Mathlib.Omega.{arith}
 use lib.Dec.{T, eqb, eqb_refl}
-use Rattle.rules.specs.Rule.{Rule, Weighted, Kind, basic, constraint, choice, weight, kind_number, body, atoms_of, weights_of}
+use Rattle.rules.specs.Rule.{Rule, Weighted, kind_number, body, atoms_of, weights_of}
+use Rattle.rules.specs.declared.kind.Kind.{Kind}
+use Rattle.rules.specs.declared.kind.Kind.TheVariants.{Basic as basic, Constraint as constraint, Choice as choice, Weight as weight}
 use Rattle.rules.proofs.Tests.{T_eq, and_T, T_and_left, T_and_right}
 
 -- are two lists the same, by a test of their elements?

@@ -24,6 +24,7 @@ impl Kind {
     }
 
     // The kind of a number that is a kind's; of any other, a weight rule's.
+    #[tactic(auto, unfolding(crate::specs::Rule::kind_of, crate::specs::Sum::pick))]
     pub fn of(number: usize) -> Kind
         ensures { result ≡ kind_of number }
     {
@@ -36,6 +37,7 @@ impl Kind {
     }
 
     // The kind of this number, where it is a kind's.
+    #[tactic(auto, unfolding(crate::specs::Rule::checked_kind, crate::specs::Sum::pick))]
     pub fn checked(number: usize) -> Option<Kind>
         ensures { result ≡ checked_kind number }
     {

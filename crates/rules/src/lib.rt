@@ -20,6 +20,7 @@ impl Atom {
     pub const LAST: usize = 512;
 
     // The atom of this number, where the sheet has n atoms and this is one of them.
+    #[tactic(auto, unfolding(crate::specs::Number::checked_atom, crate::specs::Sum::pick))]
     pub fn checked(number: usize, n: usize) -> Option<Atom>
         ensures { result ≡ checked_atom n number }
     {
@@ -51,6 +52,7 @@ impl RuleNo {
     pub const LAST: usize = 2048;
 
     // The rule of this number, where the sheet has count rules and this is one of them.
+    #[tactic(auto, unfolding(crate::specs::Number::checked_rule, crate::specs::Sum::pick))]
     pub fn checked(number: usize, count: usize) -> Option<RuleNo>
         ensures { result ≡ checked_rule count number }
     {

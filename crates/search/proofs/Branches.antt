@@ -3,6 +3,7 @@
 use Prim.Native.Nat.{ℕ, ◌+◌, ◌-◌}
 use mathlib.Core.Path.{◌≡◌, sym, ◌∙◌}
 use mathlib.Core.Bool.{Bool, true, false, true≢false, false≢true}
+use Rattle.std.specs.Prelude.{Option, Some, None, Ok, Err, is_some}
 use mathlib.Core.List.{List, [], ◌∷◌}
 use native.Mathlib.Omega.{arith}
 use lib.ListN.{get_or}
@@ -13,36 +14,38 @@ use Rattle.rules.proofs.Fits.{Numbered}
 use Rattle.rules.proofs.Bytes.{side_at, side_index, index_within}
 use Rattle.rules.proofs.Least.{holding_up}
 use Rattle.rules.proofs.First.{Lowest, leaf, try_in, try_out, try_none, branch_first, branch_none, branch_clash}
-use Rattle.table.specs.Inner.Rows.{table_rules, table_sheet}
+use Rattle.table.specs.Inner.Rows.{table_rules, table_sheet, Laid}
 use Rattle.table.proofs.Rows.{laid_numbered}
-use Rattle.forcing.specs.Inner.Rounds.{LowestAt}
-use Rattle.search.specs.Inner.Search.{Standing, Open, ClosedGuess, Tries, Answers, Follows}
+use Rattle.forcing.specs.Inner.Rounds.{NoneWith}
+use Rattle.search.specs.Inner.Search.{Standing, Open, ClosedGuess, Answers, Follows}
 
-module _ {c : List ℕ} {n count : ℕ} {m : List ℕ} where
-  ok : Standing c n count m → Numbered (table_sheet c n count)
-  ok st = laid_numbered c n count st.laid
+module _ {c : List ℕ} {n count : ℕ} (laid : Laid c n count) where
+  ok : Numbered (table_sheet c n count)
+  ok = laid_numbered c n count laid
+
+module _ {c : List ℕ} {n count : ℕ} (laid : Laid c n count) {m : List ℕ} where
 
   -- nothing is left to decide
-  pub decided_all : Standing c n count m → (i : ℕ) → LowestAt n m i → i ≡ n → Answers c n count m true m
-  decided_all st i low e = record { answer = (leaf (ok st) st.closed decided st.held, whole) }
+  pub decided_all : Standing c n count m → NoneWith 0 n m → Answers c n count m (Some m)
+  decided_all st none = record { answer = (leaf (ok laid) st.closed decided st.held, whole) }
     where
       decided : (a : ℕ) → Within n a → side n m a ≡ 0 → ⊥
-      decided a w z = low.lower (a - 1) (omega (arith, e, w.low, w.high)) (sym (side_at n m a w) ∙ z)
+      decided a w z = none (a - 1) (omega (arith, w.low, w.high)) (sym (side_at n m a w) ∙ z)
 
       whole : Whole n m
       whole k h =
-          let low : get_or m k 0 ≡ 0 → ⊥ = low.lower k (omega (arith, e, h)) in
+          let low : get_or m k 0 ≡ 0 → ⊥ = none k h in
           record { low = omega (arith, low); high = st.proper.sides k h }
 
   module _ {i : ℕ} (op : Open c n count m i) where
     pub within : Within n (i + 1)
-    within = index_within n i op.inside
+    within = index_within n i op.lowest.inside
 
     pub lowest_low : Lowest n (side n m) (i + 1)
     lowest_low =
         record {
           within = within;
-          undecided = side_index n m i op.inside ∙ op.lowest.here op.inside;
+          undecided = side_index n m i op.lowest.inside ∙ op.lowest.here;
           lower = λ b w l z. op.lowest.lower (b - 1) (omega (arith, l, w.low)) (sym (side_at n m b w) ∙ z);
         }
 
@@ -50,7 +53,6 @@ module _ {c : List ℕ} {n count : ℕ} {m : List ℕ} where
       pub next_stands : {q : List ℕ} → ClosedGuess c n count m (i + 1) s q → Standing c n count q
       next_stands g =
           record {
-            laid = op.stands.laid;
             proper = g.proper;
             closed = g.least.closed;
             held = holding_up (computed (table_sheet c n count)) g.least.holding.above op.stands.held;
@@ -58,47 +60,35 @@ module _ {c : List ℕ} {n count : ℕ} {m : List ℕ} where
 
       -- the answer for the closed guess is the answer for the branch
       pub followed :
-          {q : List ℕ} (model : Bool) {r : List ℕ} → ClosedGuess c n count m (i + 1) s q → Answers c n count q model r
-          → Follows c n count m (i + 1) s model r
-      followed true g a =
+          {q : List ℕ} (r : Option (List ℕ)) → ClosedGuess c n count m (i + 1) s q → Answers c n count q r
+          → Follows c n count m (i + 1) s r
+      followed (Some _) g a =
           record {
-            answer = (branch_first (ok op.stands) (side n m) (i + 1) within s g.least a.answer.0, a.answer.1);
+            answer = (branch_first (ok laid) (side n m) (i + 1) within s g.least a.answer.0, a.answer.1);
           }
-      followed false g a =
-          record { answer = branch_none (ok op.stands) (side n m) (i + 1) within s g.least a.answer }
+      followed None g a =
+          record { answer = branch_none (ok laid) (side n m) (i + 1) within s g.least a.answer }
 
       pub clashed :
-          (r : List ℕ) → Contradiction (Closed (table_rules c count) n) (Over (side n m) (signed s (i + 1) ∷ []))
-          → Follows c n count m (i + 1) s false r
-      clashed r k = record { answer = branch_clash (ok op.stands) (side n m) (i + 1) within s k }
+          Contradiction (Closed (table_rules c count) n) (Over (side n m) (signed s (i + 1) ∷ []))
+          → Follows c n count m (i + 1) s None
+      clashed k = record { answer = branch_clash (ok laid) (side n m) (i + 1) within s k }
 
     -- in, where there is one
     pub answered_in :
-        (model : Bool) {r : List ℕ} → model ≡ true → Follows c n count m (i + 1) true model r → Answers c n count m model r
-    answered_in true e f =
-        record { answer = (try_in (ok op.stands) op.stands.closed.is_map lowest_low f.answer.0, f.answer.1) }
-    answered_in false e f = absurd (false≢true e)
+        (r : Option (List ℕ)) → is_some r ≡ true → Follows c n count m (i + 1) true r → Answers c n count m r
+    answered_in (Some _) e f =
+        record { answer = (try_in (ok laid) op.stands.closed.is_map lowest_low f.answer.0, f.answer.1) }
+    answered_in None e f = absurd (false≢true e)
 
     -- else out
     pub answered_out :
-        (first : Bool) {r : List ℕ} → first ≡ false → Follows c n count m (i + 1) true first r → (model : Bool) {r' : List ℕ}
-        → Follows c n count m (i + 1) false model r' → Answers c n count m model r'
-    answered_out true e f model g = absurd (true≢false e)
-    answered_out false e f true g =
+        (first : Option (List ℕ)) → is_some first ≡ false → Follows c n count m (i + 1) true first → (r : Option (List ℕ))
+        → Follows c n count m (i + 1) false r → Answers c n count m r
+    answered_out (Some _) e f r g = absurd (true≢false e)
+    answered_out None e f (Some _) g =
         record {
-          answer = (try_out (ok op.stands) op.stands.closed.is_map lowest_low f.answer g.answer.0, g.answer.1);
+          answer = (try_out (ok laid) op.stands.closed.is_map lowest_low f.answer g.answer.0, g.answer.1);
         }
-    answered_out false e f false g =
-        record { answer = try_none (ok op.stands) op.stands.closed.is_map lowest_low f.answer g.answer }
-
--- by the flag that was tested
-module _ {c : List ℕ} {n count : ℕ} {m : List ℕ} {a : ℕ} {s : Bool} {q : List ℕ} where
-  pub closed_guess : (b : Bool) → b ≡ true → Tries c n count m a s b q → ClosedGuess c n count m a s q
-  closed_guess true e t = t.tried
-  closed_guess false e t = absurd (false≢true e)
-
-  pub no_guess :
-      (b : Bool) → b ≡ false → Tries c n count m a s b q
-      → Contradiction (Closed (table_rules c count) n) (Over (side n m) (signed s a ∷ []))
-  no_guess true e t = absurd (true≢false e)
-  no_guess false e t = t.tried
+    answered_out None e f None g =
+        record { answer = try_none (ok laid) op.stands.closed.is_map lowest_low f.answer g.answer }

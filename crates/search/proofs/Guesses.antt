@@ -18,8 +18,9 @@ use Rattle.rules.proofs.Bytes.{side_index, over_written, written_over}
 use Rattle.rules.proofs.Least.{least_same, contradiction_same}
 use Rattle.weigh.proofs.Bytes.{proper_put, fewer_put, proper_map}
 use Rattle.forcing.specs.Inner.Rounds.{ClosesMap}
-use Rattle.forcing.specs.declared.Closing.{Closing}
-use Rattle.forcing.specs.declared.Closing.TheVariants.{NoneHolds, ClosedWith}
+use Rattle.std.specs.Prelude.{Ok, Err}
+use Rattle.weigh.specs.declared.Clash.{Clash}
+use Rattle.table.specs.Inner.Rows.{Laid}
 use Rattle.search.specs.Inner.Search.{Open, Tries}
 use Rattle.search.proofs.Branches.{within, lowest_low}
 
@@ -59,7 +60,7 @@ fewer_above n m m' p p' f = zeros_mono n m m' p.room p'.room back
         step (inr (inl e)) = absurd (want_decided true (sym (f.keeps true (i + 1) e) ∙ zero'))
         step (inr (inr e)) = absurd (want_decided false (sym (f.keeps false (i + 1) e) ∙ zero'))
 
-module _ {c : List ℕ} {n count : ℕ} {m : List ℕ} {i : ℕ} (op : Open c n count m i) (s : Bool) (v : ℕ) (is : v ≡ want s) where
+module _ {c : List ℕ} {n count : ℕ} (laid : Laid c n count) {m : List ℕ} {i : ℕ} (op : Open c n count m i) (s : Bool) (v : ℕ) (is : v ≡ want s) where
   abbrev written : List ℕ
   written = set m (i + 1 - 1) (want s)
 
@@ -76,17 +77,17 @@ module _ {c : List ℕ} {n count : ℕ} {m : List ℕ} {i : ℕ} (op : Open c n 
 
   pub guess_proper : MapBytes n (set m i v)
   guess_proper =
-      subst (MapBytes n) same (proper_put n m (i + 1) (want s) (within op) small op.stands.proper)
+      subst (MapBytes n) same (proper_put n m (i + 1) (want s) (within laid op) small op.stands.proper)
 
   asked : (X : Map) → side n (set m i v) ⊑ X → Over (side n m) (signed s (i + 1) ∷ []) X
   asked X f =
-      over_written n m (i + 1) (within op) op.stands.proper.room s (lowest_low op).undecided X
+      over_written n m (i + 1) (within laid op) op.stands.proper.room s (lowest_low laid op).undecided X
       (subst (λ (l : List ℕ). side n l ⊑ X) (sym same) f)
 
   answered : (X : Map) → Over (side n m) (signed s (i + 1) ∷ []) X → side n (set m i v) ⊑ X
   answered X q =
       subst (λ (l : List ℕ). side n l ⊑ X) same
-      (written_over n m (i + 1) (within op) op.stands.proper.room s (lowest_low op).undecided X q)
+      (written_over n m (i + 1) (within laid op) op.stands.proper.room s (lowest_low laid op).undecided X q)
 
   fewer : undecided n (set m i v) < undecided n m
   fewer =
@@ -98,35 +99,33 @@ module _ {c : List ℕ} {n count : ℕ} {m : List ℕ} {i : ℕ} (op : Open c n 
       m
       (i + 1)
       (want s)
-      (within op)
+      (within laid op)
       op.stands.proper.room
-      (lowest_low op).undecided
+      (lowest_low laid op).undecided
       (λ e. want_decided s e))
 
-  pub guess_none : {m' : List ℕ} {r : Closing} → ClosesMap c n count (set m i v) m' r → r ≡ NoneHolds → Tries c n count m (i + 1) s false m'
-  guess_none {m'} k e =
+  pub guess_none : {m' : List ℕ} {e e' : Clash} → ClosesMap c n count (set m i v) m' (Err e) → Tries c n count m (i + 1) s (Err e')
+  guess_none k =
       record {
         tried =
             contradiction_same
             (λ X. side n (set m i v) ⊑ X)
             (Over (side n m) (signed s (i + 1) ∷ []))
             answered
-            (subst (λ (x : Closing). ClosesMap c n count (set m i v) m' x) e k).answers;
+            k.answers;
       }
 
   pub guess_closed :
-      {m' : List ℕ} {r : Closing} {k : ℕ} → ClosesMap c n count (set m i v) m' r → r ≡ ClosedWith k
-      → Tries c n count m (i + 1) s true m'
-  guess_closed {m'} {r} {k} t e =
-      let a = subst (λ (x : Closing). ClosesMap c n count (set m i v) m' x) e t in
+      {m' : List ℕ} {k : ℕ} → ClosesMap c n count (set m i v) m' (Ok k) → Tries c n count m (i + 1) s (Ok m')
+  guess_closed {m'} t =
       record {
         tried =
             record {
               least =
-                  least_same (λ X. side n (set m i v) ⊑ X) (Over (side n m) (signed s (i + 1) ∷ [])) asked answered a.answers.0;
+                  least_same (λ X. side n (set m i v) ⊑ X) (Over (side n m) (signed s (i + 1) ∷ [])) asked answered t.answers.0;
               proper = t.kept.proper;
               fewer =
                   omega
-                  (arith, fewer, fewer_above n (set m i v) m' guess_proper t.kept.proper a.answers.0.holding);
+                  (arith, fewer, fewer_above n (set m i v) m' guess_proper t.kept.proper t.answers.0.holding);
             };
       }

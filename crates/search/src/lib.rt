@@ -4,79 +4,55 @@
 ghost use Rattle.std.specs.Prelude.{◌+◌};
 ghost use Rattle.search.specs.Inner.Search.{Standing, Open, Tries, Follows, Answers};
 
-use forcing::{Closing, close, lowest};
+use forcing::{close, lowest};
 use rules::Atom;
-use weigh::side_for;
-
-// A model's map, or that there is none.
-#[derive(Clone, Copy)]
-pub struct Found {
-    pub model: bool,
-    pub map: [u8; Atom::LAST],
-}
-
-// A closed map, or that there is none.
-#[derive(Clone, Copy)]
-pub struct Guessed {
-    pub closed: bool,
-    pub map: [u8; Atom::LAST],
-}
+use table::Table;
+use weigh::{Clash, side_for};
 
 // The map with the atom at this index put on one side, closed.
-fn guess(code: &[u32], n: u32, count: u32, map: [u8; Atom::LAST], i: u32, inside: bool) -> Guessed
-    requires { Open code.now n count map i }
-    ensures { Tries code.now n count map (i + 1) inside result.closed result.map }
+fn guess(t: &Table, map: [u8; Atom::LAST], i: u32, inside: bool) -> Result<[u8; Atom::LAST], Clash>
+    requires { Open t.now.code.now t.now.atoms t.now.rules map i }
+    ensures { Tries t.now.code.now t.now.atoms t.now.rules map (i + 1) inside result }
 {
     let mut next = map;
     next[i as usize] = side_for(inside);
-    match close(code, n, count, &mut next) {
-        Closing::NoneHolds => Guessed {
-            closed: false,
-            map: next,
-        },
-        Closing::ClosedWith(_) => Guessed {
-            closed: true,
-            map: next,
-        },
-    }
+    close(t, &mut next)?;
+    Ok(next)
 }
 
 // The first model that has the guess.
 #[cycle(choose_follow_trial)]
-fn follow(code: &[u32], n: u32, count: u32, map: [u8; Atom::LAST], i: u32, inside: bool) -> Found
-    requires { Open code.now n count map i }
-    ensures { Follows code.now n count map (i + 1) inside result.model result.map }
+fn follow(t: &Table, map: [u8; Atom::LAST], i: u32, inside: bool) -> Option<[u8; Atom::LAST]>
+    requires { Open t.now.code.now t.now.atoms t.now.rules map i }
+    ensures { Follows t.now.code.now t.now.atoms t.now.rules map (i + 1) inside result }
 {
-    let next = guess(code, n, count, map, i, inside);
-    if next.closed {
-        let taken = next.map;
-        return choose(code, n, count, taken);
-    }
-    Found { model: false, map }
+    let Ok(next) = guess(t, map, i, inside) else {
+        return None;
+    };
+    choose(t, next)
 }
 
 // First with the atom in, then with it out: the map is kept, and the second guess is made on it as it stood before the first.
 #[cycle(choose_follow_trial)]
-fn trial(code: &[u32], n: u32, count: u32, map: [u8; Atom::LAST], i: u32) -> Found
-    requires { Open code.now n count map i }
-    ensures { Answers code.now n count map result.model result.map }
+fn trial(t: &Table, map: [u8; Atom::LAST], i: u32) -> Option<[u8; Atom::LAST]>
+    requires { Open t.now.code.now t.now.atoms t.now.rules map i }
+    ensures { Answers t.now.code.now t.now.atoms t.now.rules map result }
 {
-    let first = follow(code, n, count, map, i, true);
-    if first.model {
+    let first = follow(t, map, i, true);
+    if first.is_some() {
         return first;
     }
-    follow(code, n, count, map, i, false)
+    follow(t, map, i, false)
 }
 
 // The first model above a closed map: the map itself where it decides every atom, and else by trial of the lowest that it leaves.
 #[cycle(choose_follow_trial)]
-pub fn choose(code: &[u32], n: u32, count: u32, map: [u8; Atom::LAST]) -> Found
-    requires { Standing code.now n count map }
-    ensures { Answers code.now n count map result.model result.map }
+pub fn choose(t: &Table, map: [u8; Atom::LAST]) -> Option<[u8; Atom::LAST]>
+    requires { Standing t.now.code.now t.now.atoms t.now.rules map }
+    ensures { Answers t.now.code.now t.now.atoms t.now.rules map result }
 {
-    let i = lowest(&map, n);
-    if i == n {
-        return Found { model: true, map };
-    }
-    trial(code, n, count, map, i)
+    let Some(i) = lowest(&map, t.atoms) else {
+        return Some(map);
+    };
+    trial(t, map, i)
 }

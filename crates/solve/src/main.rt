@@ -3,49 +3,34 @@
 
 mod answer;
 
+ghost use Rattle.std.specs.Prelude.{IfOk};
 ghost use Rattle.solve.specs.Input.{InBuffer};
 
 use answer::answer;
 use sheet::BYTES_MOST;
 use std::io;
-use std::io::{Read, Write};
+use std::io::Read;
 
 // One byte more than a sheet may have, so that a longer one is passed on as longer.
 const MOST: usize = BYTES_MOST + 1;
 
-#[derive(Drop)]
-enum Input {
-    Bytes(usize),
-    Failed(io::Error),
-}
-
-// Standard input to its end, or until the buffer is full.
-fn read_all(reader: &mut impl Read, buffer: &mut [u8]) -> Input
-    ensures { InBuffer buffer.new result }
+// Standard input to its end, or until the buffer is full: how many bytes were read.
+fn read_all(reader: &mut impl Read, buffer: &mut [u8]) -> io::Result<usize>
+    ensures { IfOk result (InBuffer buffer.new) }
 {
     let mut len = 0;
     while len < buffer.len() {
-        match reader.read(&mut buffer[len..]) {
-            Ok(0) => return Input::Bytes(len),
-            Ok(n) => len += n,
-            Err(why) => return Input::Failed(why),
+        let more = reader.read(&mut buffer[len..])?;
+        if more == 0 {
+            break;
         }
+        len += more;
     }
-    Input::Bytes(len)
-}
-
-fn write_line(rt: &impl Print, line: &[u8]) -> io::Result<()> {
-    io::writer(rt).write_all(line)
+    Ok(len)
 }
 
 fn main(rt: HostRuntime) -> io::Result<()> {
     let mut buffer = [0u8; MOST];
-    let mut reader = rt.stdin();
-    match read_all(&mut reader, &mut buffer) {
-        Input::Bytes(len) => {
-            let line = answer(&buffer[..len]);
-            write_line(&rt, &line.bytes[..line.len])
-        }
-        Input::Failed(why) => Err(why),
-    }
+    let len = read_all(&mut rt.stdin(), &mut buffer)?;
+    print!(rt; "{}", answer(&buffer[..len]))
 }

@@ -2,7 +2,7 @@
 -- many rows are left, and by the runs of pairs of each row.
 use Prim.Native.Nat.{ℕ, zero, suc, ◌+◌, ◌-◌, ◌≤◌, ◌<◌}
 use mathlib.Core.Path.{◌≡◌, refl, sym, ◌∙◌, ap, subst}
-use mathlib.Core.Bool.{Bool, true, false, cond}
+use mathlib.Core.Bool.{Bool, true, false}
 use mathlib.Core.List.Memᴰ
 use mathlib.Core.List.{List, [], ◌∷◌, Memᴰ}
 use mathlib.Core.Logic.{⊎_elim}
@@ -10,15 +10,17 @@ use native.Mathlib.Nat.{eq-or-lt_of_le, lt_trans}
 use native.Mathlib.Omega.{arith}
 use native.Mathlib.Numerals.{add-one}
 use lib.Dec.{T, eqb}
-use Rattle.rules.specs.Sum.{has}
-use Rattle.rules.specs.Rule.{Rule, Weighted, basic, constraint, choice, weight, chooses, body, Within, kind_number, atoms_of}
+use Rattle.rules.specs.Sum.{has, pick}
+use Rattle.rules.specs.Rule.{Rule, Weighted, kind_of, chooses, body, Within, kind_number, atoms_of}
+use Rattle.rules.specs.declared.kind.Kind.TheVariants.{Basic as basic, Constraint as constraint, Choice as choice, Weight as weight}
 use Rattle.rules.proofs.Fits.{Fits, Numbered}
 use Rattle.table.specs.Inner.Words.{pair_atom, seg}
-use Rattle.table.specs.Inner.Rows.{kind_of, row_rule, row_rules, table_rules, heads_at, positives_at, from, to, Row, Laid, table_sheet}
+use Rattle.table.specs.Inner.Rows.{row_rule, row_rules, table_rules, heads_at, positives_at, from, to, Row, Laid, table_sheet}
 use Rattle.table.proofs.Words.{Among, PairFound, AtomFound, seg_found, atoms_listed}
 
 -- of the four kinds only choice chooses
-three : (a b c : Bool) → chooses (cond a choice (cond b basic (cond c constraint weight))) ≡ a
+three : (a b c : Bool) → chooses (pick a choice (pick b basic (pick c constraint weight))) ≡ a
+unfolding pick
 three true b c = refl
 three false true c = refl
 three false false true = refl
@@ -92,6 +94,11 @@ module _ (c : List ℕ) (n i : ℕ) (row : Row c n i) where
       omega (arith, heads_rise (k - (j + 1)) j l (omega arith), ap (pair_atom c) d, e)
 
 module _ (c : List ℕ) (n count : ℕ) (laid : Laid c n count) where
+  -- every row of it stands, that of the compute lists too
+  pub row_stands : (i : ℕ) → i ≤ count → Row c n i
+  row_stands i h =
+      ⊎_elim (λ (e : i ≡ count). subst (Row c n) (sym e) laid.lists) (λ (l : i < count). laid.rows i l) (eq-or-lt_of_le h)
+
   row_of : (r : Rule) (s : Standing c 0 count r) → Row c n s.row
   row_of r s = laid.rows s.row s.among.high
 

@@ -1,6 +1,7 @@
 // A table: the rules of a sheet as one list of words. A word past the end is 0; only `atom_there` and `weight_there` ask anything of the words.
 #![tactic(auto)]
 
+pub mod laid;
 pub mod parts;
 
 ghost use Rattle.std.specs.Prelude.{◌≤◌, ◌≡◌};
@@ -8,8 +9,9 @@ ghost use Rattle.rules.specs.Rule.{chooses};
 ghost use Rattle.table.specs.Inner.Words.{word_at, pair_atom, pair_weight};
 ghost use Rattle.table.specs.Inner.Rows.{kind_at, need_at, heads_at, positives_at, negatives_at, end_at};
 
+pub use laid::{Table, TableRow};
 pub use parts::{kind_at, part};
-use rules::kind::CHOICE;
+use rules::Kind;
 
 // How many words a row and a pair have.
 pub const ROW: usize = 5;
@@ -54,7 +56,7 @@ pub fn weight_there(code: &[u32], j: u32) -> u32
 pub fn is_choice(code: &[u32], i: u32) -> bool
     ensures { result ≡ chooses (kind_at code.now i) }
 {
-    word(code, ROW * (i as usize)) == CHOICE as u32
+    kind_at(code, i) == Kind::Choice
 }
 
 pub fn need_at(code: &[u32], i: u32) -> u32

@@ -1,3 +1,2 @@
-pub mod Copy
 pub mod Hold
-pub mod Perform
+pub mod Closed

@@ -3,9 +3,10 @@ use Prim.Native.Nat.{ℕ, zero, suc, ◌+◌, ◌*◌, ◌/◌, ◌%◌, ◌≤�
 use mathlib.Core.Path.{◌≡◌, refl, sym, ap, ◌∙◌}
 use mathlib.Core.Logic.{◌⊎◌, inl, inr, ⊎_elim}
 use mathlib.Core.Bool.{Bool, true, false, cond}
-use mathlib.Core.List.{List, [], ◌∷◌, ◌++◌, append_assoc}
+use mathlib.Core.List.{List, [], ◌∷◌, ◌++◌, append_assoc, append-nil}
 use native.Mathlib.Omega.{arith}
-use native.Mathlib.Nat.{suc-mul, mul-le-mul_right}
+use native.Mathlib.Numerals.{add-one}
+use native.Mathlib.Nat.{suc-mul}
 use lib.ListN.{length, length-append}
 use lib.Dec.{ltb}
 use borrow.Author.Tests.{lt-ltb, le-ltb, ltb-true, ltb-false}
@@ -78,6 +79,15 @@ unfolding spaced_all
 spaced_join [] ys = refl
 spaced_join (x ∷ xs) ys = ap (λ (t : List ℕ). spaced x ++ t) (spaced_join xs ys) ∙ sym (append_assoc (spaced x) (spaced_all xs) (spaced_all ys))
 
+-- the texts of the atoms after one index more: one atom more, where it is in, and else the same
+pub atom_in : (m : List ℕ) (i : ℕ) → is_in m i ≡ true → spaced_all (in_atoms (i + 1) m) ≡ spaced_all (in_atoms i m) ++ spaced (i + 1)
+unfolding in_atoms spaced_all
+atom_in m i e = rw (add-one i) (simp (spaced_join, e, append-nil))
+
+pub atom_out : (m : List ℕ) (i : ℕ) → is_in m i ≡ false → spaced_all (in_atoms (i + 1) m) ≡ spaced_all (in_atoms i m)
+unfolding in_atoms
+atom_out m i e = rw (add-one i) (simp (e, append-nil))
+
 -- the text of an atom, if it is in, is no longer than its number after a space
 atom_fits_law : (b : Bool) (a : ℕ) → length (spaced_all (cond b (a ∷ []) [])) ≤ length (spaced a)
 unfolding spaced_all
@@ -97,15 +107,4 @@ all_fit m (suc i) n h =
       atom_fits_law (is_in m i) (suc i),
       spaced_grows (suc i) n h,
       suc-mul i (length (spaced n)),
-    )
-
--- with room for n atoms, each as wide as the last, there is room for one after those before it
-pub atoms_fit : (m : List ℕ) (i n : ℕ) → i < n → length (spaced_all (in_atoms i m)) + length (spaced (suc i)) ≤ n * length (spaced n)
-atoms_fit m i n h =
-    omega (
-      arith,
-      all_fit m i n (omega arith),
-      spaced_grows (suc i) n h,
-      suc-mul i (length (spaced n)),
-      mul-le-mul_right {m = suc i} {n = n} (length (spaced n)) h,
     )

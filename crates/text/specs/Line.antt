@@ -1,6 +1,6 @@
 -- "The program writes one line: `MODEL` and the in-atoms, each after one space; or `NONE`; or `REFUSED` number place."
 -- A line is a list of bytes, and ends in a line feed. A number is written in decimal, with no leading zero.
-use Rattle.std.specs.Prelude.{ℕ, zero, suc, ◌+◌, ◌/◌, ◌%◌, ◌≤◌, ◌≡◌, Bool, true, false, cond, List, [], ◌∷◌, ◌++◌, length, get_or, take, eqb, ltb}
+use Rattle.std.specs.Prelude.{ℕ, zero, suc, ◌+◌, ◌/◌, ◌%◌, Bool, true, false, cond, List, [], ◌∷◌, ◌++◌, get_or, eqb, ltb}
 
 -- the byte of a digit below 10
 abbrev pub digit : ℕ → ℕ
@@ -57,9 +57,3 @@ none_line = none_word ++ feed
 
 unfoldable pub refused_line : ℕ → ℕ → List ℕ
 refused_line number place = refused_word ++ spaced number ++ spaced place ++ feed
-
--- the first len bytes of a buffer are this text. The second part is what a caller that lends them has to show.
-pub record Spells (bytes : List ℕ) (len : ℕ) (text : List ℕ) : Type 0 where
-  pub within : len ≤ length bytes
-  pub counts : len ≡ length (take len bytes)
-  pub stands : take len bytes ≡ text

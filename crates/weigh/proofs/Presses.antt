@@ -15,12 +15,12 @@ use Rattle.table.specs.Inner.Words.{pair_atom, pair_weight, pair_at}
 use Rattle.table.specs.Inner.Rows.{row_rule, from, to}
 use Rattle.table.proofs.Words.{PairFound, seg_found, seg_mem}
 use Rattle.table.proofs.Rows.{body_seg}
-use Rattle.weigh.specs.Inner.Step.{Decided, Till, Puts, both}
+use Rattle.std.specs.Prelude.{Ok, Err}
+use Rattle.weigh.specs.Inner.Step.{Decided, Outcome, Till, Puts}
 use Rattle.weigh.specs.Inner.Press.{PairPressed, PairDue, PairAsks, PressesPair, Presses, aim, Pressed, Due, PressesBody}
-use Rattle.weigh.specs.declared.Outcome.{Outcome}
-use Rattle.weigh.specs.declared.Outcome.TheVariants.{Same}
+use Rattle.weigh.specs.declared.Clash.{Clash}
 use Rattle.weigh.proofs.Bytes.{proper_map}
-use Rattle.weigh.proofs.Steps.{kept_refl, kept_trans, kept_put, concludes_on, step_same, quieter, step_joined, steps_begin, steps_more, steps_end, step_put}
+use Rattle.weigh.proofs.Steps.{after, kept_refl, kept_trans, kept_put, concludes_on, step_same, quieter, step_joined, steps_begin, steps_more, steps_end, step_put, clash_any}
 
 -- what is undecided in a map was so in a map below it
 pub undecided_back : (M M' : Map) (a : ℕ) → M a ≤ 2 → M ⊑ M' → M' a ≡ 0 → M a ≡ 0
@@ -33,14 +33,14 @@ undecided_back M M' a h f z =
 
 module _ (c : List ℕ) (n j least v : ℕ) (m : List ℕ) (asks : PairAsks c n j v m) where
   -- a pair that weighs less, or is decided, is left
-  pub pair_light : (w : ℕ) → w ≡ pair_weight c j → w < least → PressesPair c n j least v m m Same
+  pub pair_light : (w : ℕ) → w ≡ pair_weight c j → w < least → PressesPair c n j least v m m (Ok false)
   pair_light w e h =
       record {
         kept = kept_refl n m asks.proper;
         step = λ P due. step_same (Closed P n) n (PairPressed c least j) m asks.proper (λ k z. omega arith);
       }
 
-  pub pair_decided : (a x : ℕ) → a ≡ pair_atom c j → x ≡ side n m a → (x ≡ 0 → ⊥) → PressesPair c n j least v m m Same
+  pub pair_decided : (a x : ℕ) → a ≡ pair_atom c j → x ≡ side n m a → (x ≡ 0 → ⊥) → PressesPair c n j least v m m (Ok false)
   pair_decided a x ea ex f =
       record {
         kept = kept_refl n m asks.proper;
@@ -69,23 +69,33 @@ module _ (c : List ℕ) (n j least v : ℕ) (m : List ℕ) (asks : PairAsks c n 
       here = sym (ap (side n m) ea) ∙ sym ex ∙ z
 
 module _ (c : List ℕ) (n f t least v : ℕ) (m : List ℕ) (proper : MapBytes n m) where
-  pub run_begin : Presses c n f t least v m f m Same
+  pub run_begin : Presses c n f t least v m f m (Ok false)
   run_begin =
       record { kept = kept_refl n m proper; step = λ P due. steps_begin (Closed P n) n (PairPressed c least) f m proper }
 
   pub run_more :
-      (j : ℕ) (m' m'' : List ℕ) (r q u : Outcome) → f ≤ j → j < t → Presses c n f t least v m j m' r
-      → PressesPair c n j least v m' m'' q → u ≡ both r q → Presses c n f t least v m (j + 1) m'' u
-  run_more j m' m'' r q u l h s p e =
+      (j : ℕ) (m' m'' : List ℕ) (r : Bool) (q : Outcome) → f ≤ j → j < t → Presses c n f t least v m j m' (Ok r)
+      → PressesPair c n j least v m' m'' q → Presses c n f t least v m (j + 1) m'' (after r q)
+  run_more j m' m'' r q l h s p =
       record {
         kept = kept_trans n m m' m'' s.kept p.kept;
         step =
             λ P due.
-            steps_more (Closed P n) n (PairPressed c least) f j m m' m'' r q u (s.step P due) p.kept
+            steps_more (Closed P n) n (PairPressed c least) f j m m' m'' r q (s.step P due) p.kept
             (λ up. p.step P
             (λ k z. concludes_on (Closed P n) up
-            (due j l h k (undecided_back (side n m) (side n m') (pair_atom c j) ((proper_map n m proper).sides (pair_atom c j)) up z))))
-            e;
+            (due j l h k (undecided_back (side n m) (side n m') (pair_atom c j) ((proper_map n m proper).sides (pair_atom c j)) up z))));
+      }
+
+  -- a clash in a pair is one in the run
+  pub run_clash :
+      (j : ℕ) (m' m'' : List ℕ) (r : Bool) {e : Clash} → f ≤ j → j < t → Presses c n f t least v m j m' (Ok r)
+      → PressesPair c n j least v m' m'' (Err e) → Presses c n f t least v m t m'' (Err e)
+  run_clash j m' m'' r {e} l h s p =
+      let q : Presses c n f t least v m (j + 1) m'' (Err e) = run_more j m' m'' r (Err e) l h s p in
+      record {
+        kept = q.kept;
+        step = λ P due. clash_any (Closed P n) n (Till (PairPressed c least) f (j + 1)) (Till (PairPressed c least) f t) m m'' (q.step P due);
       }
 
   pub run_end : (j : ℕ) (m' : List ℕ) (r : Outcome) → t ≤ j → Presses c n f t least v m j m' r → Presses c n f t least v m t m' r
@@ -125,16 +135,17 @@ module _ (c : List ℕ) (n i least : ℕ) where
 
     -- one run after the other
     joined :
-        (m' m'' : List ℕ) (r q : Outcome) → Presses c n (from c i true) (to c i true) least (want truth) m (to c i true) m' r
+        (m' m'' : List ℕ) (r : Bool) (q : Outcome)
+        → Presses c n (from c i true) (to c i true) least (want truth) m (to c i true) m' (Ok r)
         → Presses c n (from c i false) (to c i false) least (want (not truth)) m' (to c i false) m'' q
-        → PressesBody c n i least truth m m'' (both r q)
+        → PressesBody c n i least truth m m'' (after r q)
     unfolding Runs
     joined m' m'' r q s t =
         record {
           kept = kept_trans n m m' m'' s.kept t.kept;
           step =
               λ P due.
-              quieter (Closed P n) n (λ M. Runs true M × Runs false M) (Pressed (row_rule c i) least) m m'' (both r q)
+              quieter (Closed P n) n (λ M. Runs true M × Runs false M) (Pressed (row_rule c i) least) m m'' (after r q)
               (λ b. pressed (side n m) (two b))
               (step_joined (Closed P n) n (Runs true) (Runs false) m m' m'' r q
               (s.step P (pair_due P truth (side n m) due true)) t.kept
@@ -148,8 +159,19 @@ module _ (c : List ℕ) (n i least : ℕ) where
         two b false = b.1
 
     pub body_pressed :
-        (m' m'' : List ℕ) (r q u : Outcome) {f k t v w : ℕ} → f ≡ from c i true → k ≡ to c i true → t ≡ to c i false
-        → v ≡ want truth → w ≡ want (not truth) → Presses c n f k least v m k m' r → Presses c n k t least w m' t m'' q
-        → u ≡ both r q → PressesBody c n i least truth m m'' u
-    body_pressed m' m'' r q u {f} {k} {t} {v} {w} ef ek et ev ew s p e =
-        subst (PressesBody c n i least truth m m'') (sym e) (joined m' m'' r q (rw (ef, ek, ev) at s) (rw (ek, et, ew) at p))
+        (m' m'' : List ℕ) (r : Bool) (q : Outcome) {f k t v w : ℕ} → f ≡ from c i true → k ≡ to c i true → t ≡ to c i false
+        → v ≡ want truth → w ≡ want (not truth) → Presses c n f k least v m k m' (Ok r) → Presses c n k t least w m' t m'' q
+        → PressesBody c n i least truth m m'' (after r q)
+    body_pressed m' m'' r q {f} {k} {t} {v} {w} ef ek et ev ew s p = joined m' m'' r q (rw (ef, ek, ev) at s) (rw (ek, et, ew) at p)
+
+    -- a clash in the first run is one in the body
+    pub body_clash :
+        (m' : List ℕ) {e : Clash} {f k v : ℕ} → f ≡ from c i true → k ≡ to c i true → v ≡ want truth
+        → Presses c n f k least v m k m' (Err e) → PressesBody c n i least truth m m' (Err e)
+    unfolding Runs
+    body_clash m' {e} {f} {k} {v} ef ek ev s =
+        let p = rw (ef, ek, ev) at s in
+        record {
+          kept = p.kept;
+          step = λ P due. clash_any (Closed P n) n (Runs true) (Pressed (row_rule c i) least) m m' (p.step P (pair_due P truth (side n m) due true));
+        }

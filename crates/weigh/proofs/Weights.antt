@@ -12,15 +12,16 @@ use Rattle.table.specs.Inner.Words.{seg, Seg}
 use Rattle.table.specs.Inner.Rows.{positives_at, negatives_at, end_at, row_rule, Row}
 use Rattle.table.proofs.Words.{seg_light}
 use Rattle.weigh.specs.Inner.Weigh.{meets, sees}
+use Rattle.weigh.specs.declared.Seen.{Seen}
 
-module _ (M : Map) (e : Bool) (s a a' x w w' : ℕ) (b : Bool) (ea : a ≡ a') (ex : x ≡ M a) (eb : b ≡ meets e s x) where
-  seen : b ≡ sees e s M a'
-  seen = eb ∙ ap (meets e s) (ex ∙ ap M ea)
+module _ (M : Map) (e : Seen) (a a' x w w' : ℕ) (b : Bool) (ea : a ≡ a') (ex : x ≡ M a) (eb : b ≡ meets e x) where
+  seen : b ≡ sees e M a'
+  seen = eb ∙ ap (meets e) (ex ∙ ap M ea)
 
-  pub counts : b ≡ true → w ≡ w' → w ≡ counted (sees e s M a') w'
+  pub counts : b ≡ true → w ≡ w' → w ≡ counted (sees e M a') w'
   counts t ew = ew ∙ ap (λ (f : Bool). counted f w') (sym t ∙ seen)
 
-  pub counts_not : b ≡ false → 0 ≡ counted (sees e s M a') w'
+  pub counts_not : b ≡ false → 0 ≡ counted (sees e M a') w'
   counts_not t = ap (λ (f : Bool). counted f w') (sym t ∙ seen)
 
 pub seg_cast : (c : List ℕ) (n : ℕ) {f f' t t' : ℕ} → f ≡ f' → t ≡ t' → Seg c n f' t' → Seg c n f t

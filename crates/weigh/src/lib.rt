@@ -9,19 +9,34 @@ ghost use Rattle.rules.specs.Sum.{counted};
 ghost use Rattle.rules.specs.Stable.{gain, value};
 ghost use Rattle.rules.specs.Map.{side, sure, reach, margin};
 ghost use Rattle.table.specs.Inner.Words.{pair_atom, pair_weight, seg, Pair};
-ghost use Rattle.table.specs.Inner.Rows.{row_rule, Row};
+ghost use Rattle.table.specs.Inner.Rows.{row_rule};
 ghost use Rattle.weigh.specs.Inner.Weigh.{meets, sees, Side, Weighs};
 ghost use Rattle.rules.specs.Inner.Bytes.{Room};
 
 pub use press::{press_body, side_for};
-pub use step::{is_clash, is_grew, is_same, join, put};
+pub use step::put;
+use table::TableRow;
 
-// What a step on a map came to: no closed map holds the map; nothing to add; or something was added.
-#[derive(Clone, Copy)]
-pub enum Outcome {
-    Clash,
-    Same,
-    Grew,
+// No closed map holds the map. A step that finds none such says whether it added something.
+#[derive(Clone, Copy, Debug, PartialEq, Eq)]
+pub struct Clash;
+
+// The atoms that are looked for: those on a side, or those that are not.
+#[derive(Clone, Copy, Debug, PartialEq, Eq)]
+pub enum Seen {
+    On(u8),
+    Off(u8),
+}
+
+impl Seen {
+    fn meets(self, x: u8) -> bool
+        ensures { result ≡ meets self x }
+    {
+        match self {
+            Seen::On(given) => x == given,
+            Seen::Off(given) => x != given,
+        }
+    }
 }
 
 // The side of atom a, one of n.
@@ -32,90 +47,63 @@ pub fn side_of(m: &[u8], n: u32, a: u32) -> u8
     m[(a - 1) as usize]
 }
 
-// Does a side equal a given one, or, with false, differ from it?
-fn meets_side(x: u8, given: u8, equal: bool) -> bool
-    ensures { result ≡ meets equal given x }
+// What the literal of pair j counts for: its weight where its atom is seen, else 0.
+fn weigh_pair(row: &TableRow, j: u32, m: &[u8], seen: Seen) -> u32
+    requires pair { Pair row.now.code.now row.now.atoms j }
+    requires room { Room row.now.atoms m.now }
+    ensures { result ≡ counted (sees seen (side row.now.atoms m.now) (pair_atom row.now.code.now j)) (pair_weight row.now.code.now j) }
 {
-    if equal { x == given } else { x != given }
-}
-
-// What the literal of pair j counts for: its weight where its atom's side is such, else 0.
-fn weigh_pair(code: &[u32], n: u32, j: u32, m: &[u8], given: u8, equal: bool) -> u32
-    requires { Pair code.now n j × Room n m.now }
-    ensures { result ≡ counted (sees equal given (side n m.now) (pair_atom code.now j)) (pair_weight code.now j) }
-{
-    let x = side_of(m, n, table::atom_there(code, j));
-    if meets_side(x, given, equal) {
-        table::weight_there(code, j)
+    let x = side_of(m, row.atoms, table::atom_there(row.code, j));
+    if seen.meets(x) {
+        table::weight_there(row.code, j)
     } else {
         0
     }
 }
 
-// The weight of those literals from one place to before another whose atoms have such a side.
-fn weigh(code: &[u32], n: u32, from: u32, to: u32, m: &[u8], given: u8, equal: bool) -> u32
-    requires { Weighs code.now n from to m.now }
-    ensures { result ≡ gain (sees equal given (side n m.now)) (seg code.now from to) }
+// The weight of those literals from one place to before another whose atoms are seen.
+fn weigh(row: &TableRow, from: u32, to: u32, m: &[u8], seen: Seen) -> u32
+    requires { Weighs row.now.code.now row.now.atoms from to m.now }
+    ensures { result ≡ gain (sees seen (side row.now.atoms m.now)) (seg row.now.code.now from to) }
 {
     let mut sum: u32 = 0;
-    let mut j = from;
-    while j < to {
-        sum += weigh_pair(code, n, j, m, given, equal);
-        j += 1;
+    for j in from..to {
+        sum += weigh_pair(row, j, m, seen);
     }
     sum
 }
 
-// The weight of rule i's body: the positive literals whose atoms have such a side on one map, and the negated literals whose
-// atoms have such a side on another.
-pub fn weigh_rule(
-    code: &[u32],
-    n: u32,
-    i: u32,
-    p: &[u8],
-    given: u8,
-    equal: bool,
-    q: &[u8],
-    other: u8,
-    same: bool,
-) -> u32
-    requires { Row code.now n i × (Room n p.now × Room n q.now) }
-    ensures { result ≡ value (row_rule code.now i) (sees equal given (side n p.now)) (sees same other (side n q.now)) }
+// The weight of a rule's body: the positive literals whose atoms are seen on one map, and the negated literals whose atoms are seen
+// on another.
+pub fn weigh_rule(row: &TableRow, p: &[u8], seen: Seen, q: &[u8], also: Seen) -> u32
+    requires first { Room row.now.atoms p.now }
+    requires second { Room row.now.atoms q.now }
+    ensures { result ≡ value (row_rule row.now.code.now row.now.at) (sees seen (side row.now.atoms p.now)) (sees also (side row.now.atoms q.now)) }
 {
-    let middle = table::negatives_at(code, i);
-    let first = weigh(
-        code,
-        n,
-        table::positives_at(code, i),
-        middle,
-        p,
-        given,
-        equal,
-    );
-    let second = weigh(code, n, middle, table::end_at(code, i), q, other, same);
-    first + second
+    let middle = row.negatives();
+    weigh(row, row.positives(), middle, p, seen) + weigh(row, middle, row.end(), q, also)
 }
 
-// The weight of rule i's literals that are true.
-pub fn sure(code: &[u32], n: u32, i: u32, m: &[u8]) -> u32
-    requires { Row code.now n i × Room n m.now }
-    ensures { result ≡ sure (row_rule code.now i) (side n m.now) }
+// The weight of a rule's literals that are true.
+pub fn sure(row: &TableRow, m: &[u8]) -> u32
+    requires { Room row.now.atoms m.now }
+    ensures { result ≡ sure (row_rule row.now.code.now row.now.at) (side row.now.atoms m.now) }
 {
-    weigh_rule(code, n, i, m, 1, true, m, 2, true)
+    weigh_rule(row, m, Seen::On(1), m, Seen::On(2))
 }
 
-// The weight of rule i's literals that are not false.
-pub fn reach(code: &[u32], n: u32, i: u32, m: &[u8]) -> u32
-    requires { Row code.now n i × Room n m.now }
-    ensures { result ≡ reach (row_rule code.now i) (side n m.now) }
+// The weight of a rule's literals that are not false.
+pub fn reach(row: &TableRow, m: &[u8]) -> u32
+    requires { Room row.now.atoms m.now }
+    ensures { result ≡ reach (row_rule row.now.code.now row.now.at) (side row.now.atoms m.now) }
 {
-    weigh_rule(code, n, i, m, 2, false, m, 1, false)
+    weigh_rule(row, m, Seen::Off(2), m, Seen::Off(1))
 }
 
-// Reach less need of rule i. Below zero the body can no longer hold.
-pub fn margin(code: &[u32], n: u32, i: u32, m: &[u8]) -> i64
-    requires { Row code.now n i × Room n m.now }
-    ensures { result ≡ margin (row_rule code.now i) (side n m.now) }
+// Reach less need of a rule. Below zero the body can no longer hold.
+pub fn margin(row: &TableRow, m: &[u8]) -> i64
+    requires { Room row.now.atoms m.now }
+    ensures { result ≡ margin (row_rule row.now.code.now row.now.at) (side row.now.atoms m.now) }
 {
-    (reach(code, n, i, m) as i64) - (table::need_at(code, i) as i64)
+    i64::from(reach(row, m)) - i64::from(row.need())
 }

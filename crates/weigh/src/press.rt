@@ -1,44 +1,48 @@
 // Giving the undecided literals of a body that weigh at least so much one truth.
 ghost use Rattle.std.specs.Prelude.{◌≡◌};
 ghost use Rattle.rules.specs.Map.{want};
-ghost use Rattle.table.specs.Inner.Rows.{Row};
 ghost use Rattle.rules.specs.Inner.Bytes.{MapBytes};
 ghost use Rattle.weigh.specs.Inner.Press.{PairAsks, RunAsks, PressesPair, Presses, PressesBody};
 
-use super::step::{join, put};
-use super::{Outcome, side_of};
+use super::step::put;
+use super::{Clash, side_of};
+use table::TableRow;
 
 // Put the atom of pair j on a side, if it is undecided and the pair weighs at least so much.
-fn press_pair(code: &[u32], n: u32, j: u32, least: u32, v: u8, m: &mut [u8]) -> Outcome
-    requires { PairAsks code.now n j v m.old }
-    ensures { PressesPair code.now n j least v m.old m.new result }
+fn press_pair(row: &TableRow, j: u32, least: u32, v: u8, m: &mut [u8]) -> Result<bool, Clash>
+    requires { PairAsks row.now.code.now row.now.atoms j v m.old }
+    ensures { PressesPair row.now.code.now row.now.atoms j least v m.old m.new result }
 {
-    let weight = table::weight_at(code, j);
+    let weight = table::weight_at(row.code, j);
     if weight < least {
-        return Outcome::Same;
+        return Ok(false);
     }
-    let a = table::atom_at(code, j);
-    let x = side_of(m, n, a);
+    let a = table::atom_at(row.code, j);
+    let x = side_of(m, row.atoms, a);
     let is_decided = x != 0;
     if is_decided {
-        return Outcome::Same;
+        return Ok(false);
     }
-    put(m, n, a, v)
+    put(m, row.atoms, a, v)
 }
 
 // The same for every pair from one place to before another.
-fn press_run(code: &[u32], n: u32, from: u32, to: u32, least: u32, v: u8, m: &mut [u8]) -> Outcome
-    requires { RunAsks code.now n from to v m.old }
-    ensures { Presses code.now n from to least v m.old to m.new result }
+fn press_run(
+    row: &TableRow,
+    from: u32,
+    to: u32,
+    least: u32,
+    v: u8,
+    m: &mut [u8],
+) -> Result<bool, Clash>
+    requires { RunAsks row.now.code.now row.now.atoms from to v m.old }
+    ensures { Presses row.now.code.now row.now.atoms from to least v m.old to m.new result }
 {
-    let mut all = Outcome::Same;
-    let mut j = from;
-    while j < to {
-        let one = press_pair(code, n, j, least, v, m);
-        all = join(all, one);
-        j += 1;
+    let mut grew = false;
+    for j in from..to {
+        grew |= press_pair(row, j, least, v, m)?;
     }
-    all
+    Ok(grew)
 }
 
 // The side on which an atom is true, or false.
@@ -48,29 +52,13 @@ pub fn side_for(truth: bool) -> u8
     if truth { 1 } else { 2 }
 }
 
-// Give every undecided literal of rule i that weighs at least so much this truth.
-pub fn press_body(code: &[u32], n: u32, i: u32, least: u32, truth: bool, m: &mut [u8]) -> Outcome
-    requires { Row code.now n i × MapBytes n m.old }
-    ensures { PressesBody code.now n i least truth m.old m.new result }
+// Give every undecided literal of a rule that weighs at least so much this truth.
+pub fn press_body(row: &TableRow, least: u32, truth: bool, m: &mut [u8]) -> Result<bool, Clash>
+    requires { MapBytes row.now.atoms m.old }
+    ensures { PressesBody row.now.code.now row.now.atoms row.now.at least truth m.old m.new result }
 {
-    let middle = table::negatives_at(code, i);
-    let first = press_run(
-        code,
-        n,
-        table::positives_at(code, i),
-        middle,
-        least,
-        side_for(truth),
-        m,
-    );
-    let second = press_run(
-        code,
-        n,
-        middle,
-        table::end_at(code, i),
-        least,
-        side_for(!truth),
-        m,
-    );
-    join(first, second)
+    let middle = row.negatives();
+    let first = press_run(row, row.positives(), middle, least, side_for(truth), m)?;
+    let second = press_run(row, middle, row.end(), least, side_for(!truth), m)?;
+    Ok(first | second)
 }

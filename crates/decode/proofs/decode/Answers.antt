@@ -6,11 +6,11 @@ use Rattle.decode.proofs.Decoded.{lists_ask, ending_room, ended}
 use Rattle.decode.proofs.decode.Goals as goal
 
 pub write_rest-lists-requires : goal.write_rest-lists-requires
-write_rest-lists-requires c = lists_ask c.requires c.write_rules-rules.result c.write_rules-rules.ensures
+write_rest-lists-requires c = rw c.new-unbound.ensures (lists_ask c.requires c.write_rules-rules.result c.write_rules-rules.ensures)
 
-pub overflow_add-count : goal.overflow_add-count
+pub overflow_add-rules : goal.overflow_add-rules
 unfolding rules_most
-overflow_add-count c =
+overflow_add-rules c =
     let ran = sheet_ran c.args.s.now c.args.sheet c.requires.accepted in
     omega (arith, c.write_rules-rules.ensures.few, ran.count, ran.well_formed.count)
 
@@ -18,11 +18,11 @@ pub end_rows-requires : goal.end_rows-requires
 end_rows-requires c =
     ending_room c.requires c.write_rules-rules.result c.write_rules-rules.ensures
     c.write_rest-lists.result
-    c.write_rest-lists.ensures
+    (rw c.new-unbound.ensures at c.write_rest-lists.ensures)
 
 pub returns : goal.returns
 returns c =
     ended c.requires c.write_rules-rules.result c.write_rules-rules.ensures
     c.write_rest-lists.result
-    c.write_rest-lists.ensures
+    (rw c.new-unbound.ensures at c.write_rest-lists.ensures)
     c.end_rows.ensures

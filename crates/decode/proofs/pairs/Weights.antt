@@ -124,11 +124,12 @@ module _
           long = ap length w ∙ length-set c (pair_width * j) p.value ∙ left.long;
         }
 
-    pub weights_done : to ≤ j → WeightsCopied s first c₀ from to before c (record { next = at; mark = mark })
+    pub weights_done : to ≤ j → WeightsCopied s first c₀ from to before c (record { pair = to; next = at; mark = mark })
     unfolding with_weights
     weights_done h =
         let over = numbers_over s to j at h in
         record {
+          pair = refl;
           code = sym (ap (with_weights c j) over) ∙ left.code;
           next = sym (past_over s to j at h) ∙ left.place;
           mark = mark_done 1 mark (j - from) over ∙ left.marked;

@@ -18,7 +18,6 @@ use Rattle.decode.specs.Inner.Taken.{numbers_past, list_taken, list_past, litera
 use Rattle.decode.specs.Inner.Pairs.{with_pairs, with_weights, PairsFit, PairsCopied, ListCopied, WeightsCopied}
 use Rattle.decode.specs.Inner.Rows.{BodyAsks, BodyPut}
 use Rattle.decode.specs.declared.pairs.Reached.{Reached}
-use Rattle.decode.specs.declared.pairs.WeightsEnd.{WeightsEnd}
 use Rattle.decode.specs.declared.rows.BodyEnds.{BodyEnds}
 use Rattle.decode.proofs.pairs.Copy.{asks_as, list_as, copied_long}
 use Rattle.decode.proofs.pairs.Weights.{weights_on, weights_below, weights_long}
@@ -61,7 +60,7 @@ literals_mark s before false xs ys m n =
     ap₂ (λ (us vs : List ℕ). atoms_mark (atoms_mark before us) vs) (ones_atoms xs) (ones_atoms ys)
 
 abbrev pub ends : ℕ → ℕ → ℕ → ℕ → BodyEnds
-ends negatives end next mark = record { negatives = negatives; end = end; next = next; mark = mark }
+ends negatives end next mark = record { negatives = negatives; end = record { pair = end; next = next; mark = mark } }
 
 module _ (s : List ℕ) (weighs : Bool) (at : ℕ) (c : List ℕ) (j before : ℕ) (asks : BodyAsks s weighs at c j) where
   abbrev xs : List ℕ
@@ -143,32 +142,36 @@ module _ (s : List ℕ) (weighs : Bool) (at : ℕ) (c : List ℕ) (j before : �
             second.mark ∙ ap (λ (m : ℕ). atoms_mark m ys) first.mark
             ∙ sym (literals_mark s before weighs xs ys place (literals_past s weighs xs place) ∙ simp e refl)
 
-        pub plain_put : BodyPut s weighs at c j before c₂ (ends p.pair q.pair q.next q.mark)
+        pub plain_put : BodyPut s weighs at c j before c₂ (record { negatives = p.pair; end = q })
         plain_put = made plain_code plain_next plain_mark
 
-      pub above_asks : (j ≤ p.pair) × (pair_width * p.pair ≤ length c₂)
+      pub above_low : j ≤ p.pair
+      above_low = omega (arith, middle)
+
+      pub above_room : pair_width * p.pair ≤ length c₂
       unfolding pair_width
-      above_asks = (omega (arith, middle), omega (arith, room, middle, copied_long first.pairs, copied_long written))
+      above_room = omega (arith, room, middle, copied_long first.pairs, copied_long written)
 
       module _
           {c₃ : List ℕ}
-          (v : WeightsEnd)
+          (v : Reached)
           (above : WeightsCopied s q.next c₂ j p.pair q.mark c₃ v)
         where
-          pub below_asks : (p.pair ≤ q.pair) × (pair_width * q.pair ≤ length c₃)
+          pub below_low : v.pair ≤ q.pair
+          below_low = omega (arith, end, above.pair)
+
+          pub below_room : pair_width * q.pair ≤ length c₃
           unfolding pair_width
-          below_asks = (
-            omega (arith, end),
-            omega (
-              arith,
-              room,
-              middle,
-              end,
-              copied_long first.pairs,
-              copied_long written,
-              ap length above.code ∙ weights_long c₂ j _,
-            ),
-          )
+          below_room =
+              omega (
+                arith,
+                room,
+                middle,
+                end,
+                copied_long first.pairs,
+                copied_long written,
+                ap length above.code ∙ weights_long c₂ j _,
+              )
 
           abbrev vs : List ℕ
           vs = numbers_from (length xs) s place
@@ -185,7 +188,10 @@ module _ (s : List ℕ) (weighs : Bool) (at : ℕ) (c : List ℕ) (j before : �
           ws_are : numbers_from (q.pair - p.pair) s v.next ≡ ws
           ws_are = ap₂ (λ (k m : ℕ). numbers_from k s m) (omega (arith, end)) v_is
 
-          module _ (e : weighs ≡ true) {d : List ℕ} (w : WeightsEnd) (below : WeightsCopied s v.next c₃ p.pair q.pair v.mark d w) where
+          module _ (e : weighs ≡ true) {d : List ℕ} (w : Reached) (put : WeightsCopied s v.next c₃ v.pair q.pair v.mark d w) where
+            below : WeightsCopied s v.next c₃ p.pair q.pair v.mark d w
+            below = subst (λ (k : ℕ). WeightsCopied s v.next c₃ k q.pair v.mark d w) above.pair put
+
             weighed_code : d ≡ with_pairs (with_pairs c j (body_taken s weighs at).pos) p.pair (body_taken s weighs at).neg
             unfolding body_taken literals_taken literals_past pick
             weighed_code =
@@ -210,5 +216,7 @@ module _ (s : List ℕ) (weighs : Bool) (at : ℕ) (c : List ℕ) (j before : �
                 let h : w.mark ≡ weights_mark (weights_mark (atoms_mark (atoms_mark before xs) ys) vs) ws = cc in
                 h ∙ sym (literals_mark s before weighs xs ys place (literals_past s weighs xs place) ∙ simp e refl)
 
-            pub weighed_put : BodyPut s weighs at c j before d (ends p.pair q.pair w.next w.mark)
-            weighed_put = made weighed_code weighed_next weighed_mark
+            pub weighed_put : BodyPut s weighs at c j before d (record { negatives = p.pair; end = w })
+            weighed_put =
+                subst (λ (k : ℕ). BodyPut s weighs at c j before d (ends p.pair k w.next w.mark)) (sym below.pair)
+                (made weighed_code weighed_next weighed_mark)

@@ -1,11 +1,14 @@
 -- Writing a rule touches the words of its row, where the next row begins, and the pairs from a place on, and no other word, and leaves as
 -- much room as the rules that are left need.
-use Prim.Native.Nat.{ℕ, ◌+◌, ◌*◌, ◌<◌}
+use Prim.Native.Nat.{ℕ, ◌+◌, ◌*◌, ◌≤◌, ◌<◌}
 use mathlib.Core.Path.{◌≡◌, ◌∙◌}
 use mathlib.Core.List.{List, ◌∷◌}
 use native.Mathlib.Omega.{arith}
 use lib.ListN.{length, set, length-set}
-use Rattle.rules.specs.Rule.{Rule, ones}
+use Rattle.rules.specs.Limits.{number_most}
+use Rattle.rules.specs.Rule.{Rule, ones, kind_number}
+use Rattle.rules.specs.declared.kind.Kind.{Kind}
+use Rattle.rules.specs.declared.kind.Kind.TheVariants.{Basic as basic, Constraint as constraint, Choice as choice, Weight as weight}
 use Rattle.sheet.specs.Shown.Encode.{rules_size}
 use Rattle.table.specs.Inner.Words.{row_width, pair_width, word_at}
 use Rattle.decode.specs.Inner.Rows.{positives_from, negatives_from, end_from, with_body, with_row, with_rule, with_end, with_last, TableRoom}
@@ -23,6 +26,14 @@ pub row_put :
     → c₅ ≡ with_row c i a b d e f
 unfolding with_row
 row_put c i a b d e f h₁ h₂ h₃ h₄ h₅ = cc (five_words c (row_width * i) a b d e f)
+
+-- a kind's number is a sheet's
+pub kind_fits : (kind : Kind) → kind_number kind ≤ number_most
+unfolding number_most
+kind_fits basic = omega arith
+kind_fits constraint = omega arith
+kind_fits choice = omega arith
+kind_fits weight = omega arith
 
 pub row_long : (c : List ℕ) (i a b d e f : ℕ) → length (with_row c i a b d e f) ≡ length c
 unfolding with_row

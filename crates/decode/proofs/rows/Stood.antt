@@ -8,10 +8,10 @@ use native.Mathlib.Omega.{arith}
 use native.Mathlib.Nat.{add-zero, eq-or-lt_of_le}
 use lib.ListN.{length, get_or}
 use Rattle.rules.specs.Limits.{number_most}
-use Rattle.rules.specs.Rule.{Rule, Weighted, one, ones, no_rule}
+use Rattle.rules.specs.Rule.{Rule, Weighted, kind_of, one, ones, no_rule}
 use Rattle.rules.proofs.Members.{map_mem}
 use Rattle.table.specs.Inner.Words.{row_width, pair_width, word_at, pair_at}
-use Rattle.table.specs.Inner.Rows.{kind_of, kind_at, need_at, heads_at, positives_at, negatives_at, row_rule}
+use Rattle.table.specs.Inner.Rows.{kind_at, need_at, heads_at, positives_at, negatives_at, row_rule}
 use Rattle.table.proofs.Words.{seg_mem}
 use Rattle.repeats.specs.Inner.Same.{Filled}
 use Rattle.decode.specs.Inner.Rows.{positives_from, negatives_from, end_from, with_last, RowWritten, TableRoom, RowStands, RowHas, Stood}

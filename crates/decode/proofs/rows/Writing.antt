@@ -2,42 +2,37 @@
 -- one of the rows that are kept; and what is left of the rules, with the compute lists, has room.
 use Prim.Native.Nat.{ℕ, suc, ◌+◌, ◌-◌, ◌*◌, ◌≤◌, ◌<◌}
 use mathlib.Core.Path.{◌≡◌, refl, sym, ◌∙◌, ap, ap₂, subst}
-use mathlib.Core.Logic.{◌⊎◌, inl, inr, ⊎_elim}
-use mathlib.Core.Bool.{Bool, true, false}
+use mathlib.Core.Logic.{◌⊎◌, inl, inr}
 use mathlib.Core.List.{List, [], ◌∷◌, ◌++◌, Memᴰ}
+use Rattle.std.specs.Prelude.{Ok}
 use native.Mathlib.Omega.{arith}
 use native.Mathlib.Nat.{sub-zero, eq-or-lt_of_le}
 use native.Mathlib.Numerals.{add-one}
-use lib.Dec.{eqb}
-use lib.ListN.{length, get_or, drop, replicate}
+use lib.ListN.{length, get_or, drop}
 use lib.Seq.{drop-cons}
-use borrow.Author.Tests.{eq-eqb, ne_eqb}
 use Rattle.rules.specs.Limits.{rules_most}
-use Rattle.rules.specs.Sum.{pick}
 use Rattle.rules.specs.Rule.{Rule, no_rule}
 use Rattle.rules.proofs.Members.{index_mem}
 use Rattle.numbers.specs.Answer.{span}
 use Rattle.numbers.specs.Lists.{in_turn, up_to}
 use Rattle.numbers.specs.declared.Span.{Span}
-use Rattle.numbers.specs.declared.Read.TheVariants.{Got}
-use Rattle.numbers.proofs.Answer.{one_left, same_span}
+use Rattle.numbers.proofs.Answer.{one_left, same_ok}
 use Rattle.numbers.proofs.lists.Laws.{turned}
 use Rattle.sheet.specs.Rule.{rule_at, rule_step, rules_at}
 use Rattle.sheet.specs.Sheet.{sheet_read}
 use Rattle.sheet.specs.Meaning.{rules_from, sheet_meant}
 use Rattle.sheet.specs.Shown.Encode.{rules_size}
 use Rattle.sheet.specs.declared.Outline.{Outline}
-use Rattle.sheet.specs.declared.SheetRead.TheVariants.{Accepted}
 use Rattle.sheet.specs.declared.SheetRule.{SheetRule}
-use Rattle.sheet.specs.declared.RuleRead.TheVariants.{Got as GotRule}
 use Rattle.sheet.proofs.Sound.{each_proper, proper_headed}
 use Rattle.sheet.proofs.sheet.Rules.{rules_more, rules_next}
-use Rattle.sheet.proofs.sheet.Ran.{SheetRan, same_outline, sheet_ran}
+use Rattle.sheet.proofs.sheet.Ran.{SheetRan, sheet_ran}
 use Rattle.table.specs.Inner.Words.{row_width, pair_width}
 use Rattle.table.specs.Inner.Rows.{row_rule}
 use Rattle.repeats.specs.Inner.Same.{Filled}
-use Rattle.repeats.specs.Inner.Marks.{slot_count, rule_mark}
-use Rattle.repeats.specs.Inner.Slots.{Indexed, KeepAsks, KeptOnce}
+use Rattle.repeats.specs.Inner.Marks.{rule_mark}
+use Rattle.repeats.specs.declared.slots.Kept.{Kept}
+use Rattle.repeats.specs.Inner.Slots.{Indexed, KeepAsks, KeptOnce, nothing_kept}
 use Rattle.repeats.proofs.Index.{index_begin, index_kept}
 use Rattle.decode.specs.declared.pairs.Reached.{Reached}
 use Rattle.decode.specs.Inner.Taken.{rule_taken}
@@ -50,7 +45,7 @@ use Rattle.decode.proofs.rows.Stood.{row_filled, last_row, rule_kept, stood_kept
 use Rattle.decode.proofs.Room.{table_room}
 
 -- the first i rules stand in k rows, and the next was read at a place
-pub record Writing (s : List ℕ) (o : Outline) (wanted : ℕ) (c₀ c slots links : List ℕ) (i k j row at : ℕ) : Type 0 where
+pub record Writing (s : List ℕ) (o : Outline) (wanted : ℕ) (c₀ c : List ℕ) (kept : Kept) (i k j row at : ℕ) : Type 0 where
   pub low : i ≤ o.rules.value
   pub few : k ≤ i
   pub room : TableRoom c k j (rules_from (o.rules.value - i) s o.atoms at ++ (lists_rule (sheet_meant s o) ∷ []))
@@ -59,27 +54,27 @@ pub record Writing (s : List ℕ) (o : Outline) (wanted : ℕ) (c₀ c slots lin
   pub row_most : row ≤ i
   pub rest : drop i (sheet_meant s o).rules ≡ rules_from (o.rules.value - i) s o.atoms at
   pub reads :
-      in_turn (rule_step s o.atoms) (o.rules.value - i) 0 (span o.rules.value o.rules.first at) ≡ Got o.rules
-  pub index : Indexed c slots links k
+      in_turn (rule_step s o.atoms) (o.rules.value - i) 0 (span o.rules.value o.rules.first at) ≡ Ok o.rules
+  pub index : Indexed c kept k
   pub long : length c ≡ length c₀
 
 -- the same of the one sheet that these bytes are accepted as: a loop that does not look at the sheet says so much
-pub record WritingOne (s : List ℕ) (wanted : ℕ) (c₀ c slots links : List ℕ) (i k j row at : ℕ) : Type 0 where
+pub record WritingOne (s : List ℕ) (wanted : ℕ) (c₀ c : List ℕ) (kept : Kept) (i k j row at : ℕ) : Type 0 where
   pub sheet : Outline
-  pub accepted : sheet_read s ≡ Accepted sheet
-  pub writing : Writing s sheet wanted c₀ c slots links i k j row at
+  pub accepted : sheet_read s ≡ Ok sheet
+  pub writing : Writing s sheet wanted c₀ c kept i k j row at
 
 module _ {s : List ℕ} {o : Outline} {c₀ : List ℕ} (ready : Decodable s o c₀) where
   pub writing_one :
-      {wanted : ℕ} {c slots links : List ℕ} {i k j row at : ℕ} → Writing s o wanted c₀ c slots links i k j row at
-      → WritingOne s wanted c₀ c slots links i k j row at
+      {wanted : ℕ} {c : List ℕ} {kept : Kept} {i k j row at : ℕ} → Writing s o wanted c₀ c kept i k j row at
+      → WritingOne s wanted c₀ c kept i k j row at
   writing_one w = record { sheet = o; accepted = ready.accepted; writing = w }
 
   pub this_one :
-      {wanted : ℕ} {c slots links : List ℕ} {i k j row at : ℕ} → WritingOne s wanted c₀ c slots links i k j row at
-      → Writing s o wanted c₀ c slots links i k j row at
-  this_one {wanted} {c} {slots} {links} {i} {k} {j} {row} {at} w =
-      subst (λ (t : Outline). Writing s t wanted c₀ c slots links i k j row at) (same_outline (sym w.accepted ∙ ready.accepted))
+      {wanted : ℕ} {c : List ℕ} {kept : Kept} {i k j row at : ℕ} → WritingOne s wanted c₀ c kept i k j row at
+      → Writing s o wanted c₀ c kept i k j row at
+  this_one {wanted} {c} {kept} {i} {k} {j} {row} {at} w =
+      subst (λ (t : Outline). Writing s t wanted c₀ c kept i k j row at) (same_ok (sym w.accepted ∙ ready.accepted))
       w.writing
 
   abbrev lists : List Rule
@@ -90,7 +85,7 @@ module _ {s : List ℕ} {o : Outline} {c₀ : List ℕ} (ready : Decodable s o c
 
   pub writing_begin :
       {wanted j : ℕ} → j ≡ first_pair o.rules.value
-      → Writing s o wanted c₀ c₀ (replicate slot_count 0) (replicate rules_most 0) 0 0 j 0 o.rules.first
+      → Writing s o wanted c₀ c₀ nothing_kept 0 0 j 0 o.rules.first
   unfolding sheet_meant rules_at
   writing_begin {wanted} {j} e =
       let all : rules_from (o.rules.value - 0) s o.atoms o.rules.first ≡ rules_from o.rules.value s o.atoms o.rules.first =
@@ -121,9 +116,10 @@ module _ {s : List ℕ} {o : Outline} {c₀ : List ℕ} (ready : Decodable s o c
 
   module _
       {wanted : ℕ}
-      {c slots links : List ℕ}
+      {c : List ℕ}
+      {kept : Kept}
       {i k j row at : ℕ}
-      (w : Writing s o wanted c₀ c slots links i k j row at)
+      (w : Writing s o wanted c₀ c kept i k j row at)
     where
       abbrev rules : List Rule
       rules = (sheet_meant s o).rules
@@ -142,8 +138,8 @@ module _ {s : List ℕ} {o : Outline} {c₀ : List ℕ} (ready : Decodable s o c
         r = rule_taken s at
 
         next :
-            (r : SheetRule) × (rule_at s o.atoms at ≡ GotRule r)
-            × (in_turn (rule_step s o.atoms) after 0 (up_to done r.next) ≡ Got o.rules)
+            (r : SheetRule) × (rule_at s o.atoms at ≡ Ok r)
+            × (in_turn (rule_step s o.atoms) after 0 (up_to done r.next) ≡ Ok o.rules)
         next =
             rules_next s o.atoms after 0 done o.rules
             (ap (λ (k : ℕ). in_turn (rule_step s o.atoms) k 0 done) (sym (one_left o.rules.value i h)) ∙ w.reads)
@@ -183,7 +179,7 @@ module _ {s : List ℕ} {o : Outline} {c₀ : List ℕ} (ready : Decodable s o c
         room_one = record { rows = omega (arith, room.rows); pairs = omega (arith, room.pairs); few = omega (arith, room.few) }
 
         pub next_asks : RuleAsks s at c k j
-        next_asks = record { kind = taken.kind; room = room_one }
+        next_asks = room_one
 
         below : row_width * (k + 2) ≤ pair_width * first
         unfolding row_width pair_width first_pair
@@ -211,7 +207,7 @@ module _ {s : List ℕ} {o : Outline} {c₀ : List ℕ} (ready : Decodable s o c
         filled p (inr l) =
             let t = stood.rows p l in row_filled t.written (headed t.among) (omega (arith, t.high, room_one.few))
 
-        index_on : Indexed d slots links k
+        index_on : Indexed d kept k
         index_on = index_kept (rule_kept r room_one below w.stood) w.index
 
         module _ {c₁ : List ℕ} (end : Reached) (put : RulePut s at c k j c₁ end) where
@@ -226,9 +222,9 @@ module _ {s : List ℕ} {o : Outline} {c₀ : List ℕ} (ready : Decodable s o c
             unfolding with_last
             is_last = ended ∙ ap₂ (λ (x : List ℕ) (m : ℕ). with_end x (k + 1) m) put.code put.pair
 
-            pub keep_asks : KeepAsks c₂ slots links k end.mark
+            pub keep_asks : KeepAsks c₂ kept k end.mark
             keep_asks =
-                subst (λ (x : List ℕ). KeepAsks x slots links k end.mark) (sym is_last)
+                subst (λ (x : List ℕ). KeepAsks x kept k end.mark) (sym is_last)
                 (record {
                   mark_is = put.mark ∙ ap rule_mark (sym (row_written row_last));
                   filled = λ p l. filled p (eq-or-lt_of_le l);
@@ -236,9 +232,9 @@ module _ {s : List ℕ} {o : Outline} {c₀ : List ℕ} (ready : Decodable s o c
                   index = index_on;
                 })
 
-            module _ {slots' links' : List ℕ} {x : ℕ} (kept : KeptOnce c₂ k slots links slots' links' x) where
-              once : KeptOnce d k slots links slots' links' x
-              once = subst (λ (y : List ℕ). KeptOnce y k slots links slots' links' x) is_last kept
+            module _ {kept' : Kept} {x : ℕ} (keeps : KeptOnce c₂ k kept kept' x) where
+              once : KeptOnce d k kept kept' x
+              once = subst (λ (y : List ℕ). KeptOnce y k kept kept' x) is_last keeps
 
               place : end.next ≡ next.0.next
               place = put.place ∙ taken.next
@@ -248,14 +244,15 @@ module _ {s : List ℕ} {o : Outline} {c₀ : List ℕ} (ready : Decodable s o c
                 fewer : k' ≤ i + 1
                 room' : TableRoom d k' j' (left ++ lists)
                 stood' : Stood rules first d (i + 1) k' j'
-                index' : Indexed d slots' links' k'
+                index' : Indexed d kept' k'
                 row' : (x < k') × (row_rule d x ≡ r)
                 more : k ≤ k'
 
-              repeated : x < k → Turned k j
+              repeated : (x ≡ k → ⊥) → Turned k j
               unfolding row_width pair_width rules_size
-              repeated l =
-                  let (same, slots_same, links-same) = once.repeat l in
+              repeated other =
+                  let l : x < k = omega (arith, once.low) in
+                  let (same, all-same) = once.repeat l in
                   let rule : row_rule d x ≡ r = same ∙ row_written row_last in
                   record {
                     fewer = omega (arith, w.few);
@@ -266,18 +263,17 @@ module _ {s : List ℕ} {o : Outline} {c₀ : List ℕ} (ready : Decodable s o c
                           few = omega (arith, room.few);
                         };
                     stood' = stood_repeat stood (x, record { low = l; same = rule ∙ sym here });
-                    index' =
-                        subst (λ (y : List ℕ). Indexed d y links' k) (sym slots_same)
-                        (subst (λ (y : List ℕ). Indexed d slots y k) (sym links-same) index_on);
+                    index' = subst (λ (y : Kept). Indexed d y k) (sym all-same) index_on;
                     row' = (l, rule);
                     more = omega arith;
                   }
 
-              new : x ≡ k → Turned (k + 1) (end_from j r)
+              new : x ≡ k → Turned (k + 1) end.pair
               unfolding row_width pair_width rules_size positives_from negatives_from end_from
               new e =
                   let n = once.new e in
-                  record {
+                  subst (λ (m : ℕ). Turned (k + 1) m) (sym put.pair)
+                  (record {
                     fewer = omega (arith, w.few);
                     room' =
                         record {
@@ -289,69 +285,55 @@ module _ {s : List ℕ} {o : Outline} {c₀ : List ℕ} (ready : Decodable s o c
                     index' = n.index;
                     row' = (omega (arith, e), ap (row_rule d) e ∙ row_written row_last);
                     more = omega arith;
-                  }
+                  })
 
-              turned_on : (x ≡ k) ⊎ (x < k) → Turned (pick (eqb x k) (k + 1) k) (pick (eqb x k) end.pair j)
-              unfolding pick
-              turned_on (inl e) =
-                  let b = eq-eqb x k e in
-                  subst (λ (t : Bool). Turned (pick t (k + 1) k) (pick t end.pair j)) (sym b)
-                  (subst (λ (m : ℕ). Turned (k + 1) m) (sym put.pair) (new e))
-              turned_on (inr l) =
-                  let b = ne_eqb x k (λ e. omega (arith, e)) in
-                  subst (λ (t : Bool). Turned (pick t (k + 1) k) (pick t end.pair j)) (sym b) (repeated l)
+              -- the row of the rule that was asked for: this one, or the one before
+              abbrev pub Asked : ℕ → Type 0
+              Asked row' = ((i ≡ wanted) × (row' ≡ x)) ⊎ ((i ≡ wanted → ⊥) × (row' ≡ row))
 
-              stays_on : (k' j' : ℕ) → Turned k' j' → wanted < i + 1 → RowHas d k' (get_or rules wanted no_rule) (pick (eqb i wanted) x row)
-              unfolding pick
-              stays_on k' j' t l =
-                  ⊎_elim
-                  (λ (e : wanted ≡ i).
-                  subst (λ (b : Bool). RowHas d k' (get_or rules wanted no_rule) (pick b x row)) (sym (eq-eqb i wanted (sym e)))
-                  (record { low = t.row'.0; same = t.row'.1 ∙ sym here ∙ ap (λ (y : ℕ). get_or rules y no_rule) (sym e) }))
-                  (λ (m : wanted < i).
-                  let old = w.stays m in
-                  subst (λ (b : Bool). RowHas d k' (get_or rules wanted no_rule) (pick b x row)) (sym (ne_eqb i wanted (λ e. omega (arith, e))))
+              stays_on : (k' j' row' : ℕ) → Turned k' j' → Asked row' → wanted < i + 1 → RowHas d k' (get_or rules wanted no_rule) row'
+              stays_on k' j' row' t (inl a) l =
+                  subst (RowHas d k' (get_or rules wanted no_rule)) (sym a.1)
+                  (record { low = t.row'.0; same = t.row'.1 ∙ sym here ∙ ap (λ (y : ℕ). get_or rules y no_rule) a.0 })
+              stays_on k' j' row' t (inr a) l =
+                  let old = w.stays (omega (arith, l, a.0)) in
+                  subst (RowHas d k' (get_or rules wanted no_rule)) (sym a.1)
                   (record {
                     low = omega (arith, old.low, t.more);
                     same = rule_kept r room_one below w.stood row old.low ∙ old.same;
-                  }))
-                  (eq-or-lt_of_le (omega (arith, l)))
+                  })
 
-              row_low : pick (eqb i wanted) x row ≤ i + 1
-              unfolding pick
-              row_low = by (eqb i wanted)
-                where
-                  by : (b : Bool) → pick b x row ≤ i + 1
-                  by true = omega (arith, once.low, w.few)
-                  by false = omega (arith, w.row_most)
+              row_low : (row' : ℕ) → Asked row' → row' ≤ i + 1
+              row_low row' (inl a) = omega (arith, once.low, w.few, a.1)
+              row_low row' (inr a) = omega (arith, w.row_most, a.1)
 
-              pub writing_next :
-                  Writing s o wanted c₀ c₂ slots' links' (i + 1) (pick (eqb x k) (k + 1) k) (pick (eqb x k) end.pair j)
-                  (pick (eqb i wanted) x row) end.next
-              writing_next =
-                  let t = turned_on (eq-or-lt_of_le once.low) in
+              writing_next :
+                  (k' j' row' : ℕ) → Turned k' j' → Asked row' → Writing s o wanted c₀ c₂ kept' (i + 1) k' j' row' end.next
+              writing_next k' j' row' t a =
                   subst
-                  (λ (y : List ℕ).
-                  Writing s o wanted c₀ y slots' links' (i + 1) (pick (eqb x k) (k + 1) k) (pick (eqb x k) end.pair j)
-                  (pick (eqb i wanted) x row) end.next)
+                  (λ (y : List ℕ). Writing s o wanted c₀ y kept' (i + 1) k' j' row' end.next)
                   (sym is_last)
                   (record {
                     low = omega (arith, h);
                     few = t.fewer;
-                    room =
-                        subst
-                        (λ (p : ℕ).
-                        TableRoom d (pick (eqb x k) (k + 1) k) (pick (eqb x k) end.pair j) (rules_from after s o.atoms p ++ lists))
-                        (sym place)
-                        t.room';
+                    room = subst (λ (p : ℕ). TableRoom d k' j' (rules_from after s o.atoms p ++ lists)) (sym place) t.room';
                     stood = t.stood';
-                    stays = stays_on _ _ t;
-                    row_most = row_low;
+                    stays = stays_on _ _ _ t a;
+                    row_most = row_low _ a;
                     rest = rest ∙ ap (λ (p : ℕ). rules_from after s o.atoms p) (sym place);
                     reads = ap (λ (p : ℕ). in_turn (rule_step s o.atoms) after 0 (up_to done p)) place ∙ next.2;
                     index = t.index';
                     long = last_long c k j r ∙ w.long;
                   })
+
+              -- a rule that is new has one row more, and a repeat none
+              pub writing_new :
+                  (row' : ℕ) → x ≡ k → Asked row' → Writing s o wanted c₀ c₂ kept' (i + 1) (k + 1) end.pair row' end.next
+              writing_new row' e a = writing_next _ _ _ (new e) a
+
+              pub writing_repeat :
+                  (row' : ℕ) → (x ≡ k → ⊥) → Asked row' → Writing s o wanted c₀ c₂ kept' (i + 1) k j row' end.next
+              writing_repeat row' e a = writing_next _ _ _ (repeated e) a
 
       pub writing_done :
           o.rules.value ≤ i → WritesRules s o wanted c₀ c (record { count = k; row = row; pair = j; next = at })
@@ -365,6 +347,6 @@ module _ {s : List ℕ} {o : Outline} {c₀ : List ℕ} (ready : Decodable s o c
             room = subst (λ (m : ℕ). TableRoom c k j (rules_from m s o.atoms at ++ lists)) z w.room;
             row = λ l. w.stays (omega (arith, l, h));
             row_most = omega (arith, w.row_most, w.low);
-            place = ap (λ (p : Span). p.next) (same_span (turned _ _ i 0 _ w.reads h));
+            place = ap (λ (p : Span). p.next) (same_ok (turned _ _ i 0 _ w.reads h));
             long = w.long;
           }

@@ -1,17 +1,18 @@
 -- The row of a rule that was written stands for that rule: its words are the row's and its pairs the rule's lists.
 use Prim.Native.Nat.{ℕ, ◌+◌, ◌*◌, ◌≤◌, ◌<◌}
-use mathlib.Core.Path.{◌≡◌, refl, sym, ◌∙◌, ap}
+use mathlib.Core.Path.{◌≡◌, sym, ◌∙◌, ap}
 use mathlib.Core.List.{List, [], ◌∷◌}
 use native.Mathlib.Omega.{arith}
 use native.Mathlib.Nat.{add-zero}
 use lib.ListN.{length, get_or, length-map}
-use Rattle.rules.specs.Rule.{Rule, Kind, basic, constraint, choice, weight, kind_number, ones, atoms_of}
+use Rattle.rules.specs.Rule.{Rule, kind_number, kind_of, ones, atoms_of}
 use Rattle.sheet.specs.Shown.Encode.{rules_size}
 use Rattle.sheet.proofs.rule.Apart.{ones_atoms}
 use Rattle.table.specs.Inner.Words.{row_width, pair_width, word_at, seg, seg_atoms}
-use Rattle.table.specs.Inner.Rows.{kind_of, kind_at, need_at, heads_at, positives_at, negatives_at, end_at, row_rule}
+use Rattle.table.specs.Inner.Rows.{kind_at, need_at, heads_at, positives_at, negatives_at, end_at, row_rule}
 use Rattle.decode.specs.Inner.Pairs.{with_pairs}
 use Rattle.decode.specs.Inner.Rows.{positives_from, negatives_from, end_from, with_body, with_row, with_rule, with_end, with_last, RowWritten, TableRoom}
+use Rattle.decode.proofs.Taken.{kind_written}
 use Rattle.decode.proofs.words.Laws.{word_same, word_other, words_other, words_at}
 use Rattle.decode.proofs.rows.Laws.{body_long, rule_long}
 use Rattle.decode.proofs.pairs.Laws.{pairs_long, pairs_below, seg_same, seg_written}
@@ -38,13 +39,6 @@ module _ (c : List ℕ) (j : ℕ) (r : Rule) (room : pair_width * end_from j r �
   body_neg : seg (with_body c j r) (negatives_from j r) (end_from j r) ≡ r.neg
   unfolding with_body positives_from negatives_from end_from pair_width
   body_neg = seg_written _ (negatives_from j r) r.neg (simp pairs_long room)
-
-kind_written : (k : Kind) → kind_of (kind_number k) ≡ k
-unfolding kind_of
-kind_written basic = refl
-kind_written constraint = refl
-kind_written choice = refl
-kind_written weight = refl
 
 abbrev row_words : ℕ → Rule → List ℕ
 row_words j r = kind_number r.kind ∷ r.need ∷ j ∷ positives_from j r ∷ negatives_from j r ∷ []

@@ -1,12 +1,11 @@
 -- "Atom count n (0 to 512); rule count (0 to 2,048); the rules; the compute-in list; the compute-out list": an accepted sheet as a table,
 -- one row for each rule, however often it stands, one for the compute lists and one more, then the pairs of their heads and literals. Two
 -- words for each byte of the sheet and two more are enough.
-use Rattle.std.specs.Prelude.{ℕ, ◌+◌, ◌*◌, ◌≤◌, ◌<◌, ◌≡◌, List, [], ◌∷◌, length, get_or}
+use Rattle.std.specs.Prelude.{ℕ, ◌+◌, ◌*◌, ◌≤◌, ◌<◌, ◌≡◌, List, [], ◌∷◌, length, get_or, Ok}
 use Rattle.rules.specs.Rule.{no_rule, Shuffled}
 use Rattle.sheet.specs.Sheet.{sheet_read}
 use Rattle.sheet.specs.Meaning.{sheet_meant}
 use Rattle.sheet.specs.declared.Outline.{Outline}
-use Rattle.sheet.specs.declared.SheetRead.TheVariants.{Accepted}
 use Rattle.table.specs.Inner.Words.{pair_width}
 use Rattle.table.specs.Inner.Rows.{table_sheet, Laid}
 use Rattle.decode.specs.declared.rows.Rows.{Rows}
@@ -31,7 +30,7 @@ unfoldable pub large_bytes : ℕ
 large_bytes = 32768
 
 pub record Decodable (s : List ℕ) (sheet : Outline) (c : List ℕ) : Type 0 where
-  pub accepted : sheet_read s ≡ Accepted sheet
+  pub accepted : sheet_read s ≡ Ok sheet
   pub room : table_words (length s) ≤ length c
 
 -- the rules are written, each once, and the compute lists, at a place of the sheet, are left; the rule at this index has a row

@@ -9,7 +9,6 @@ use Rattle.repeats.specs.Inner.Marks.{atoms_mark, weights_mark}
 use Rattle.decode.specs.Inner.Words.{with_words}
 use Rattle.decode.specs.Inner.Taken.{numbers_past}
 use Rattle.decode.specs.declared.pairs.Reached.{Reached}
-use Rattle.decode.specs.declared.pairs.WeightsEnd.{WeightsEnd}
 
 unfoldable pub with_pair : List ℕ → ℕ → ℕ → ℕ → List ℕ
 with_pair c j atom weight = with_words c (pair_width * j) (weight ∷ atom ∷ [])
@@ -46,7 +45,8 @@ pub record ListCopied (c : List ℕ) (j : ℕ) (xs : List ℕ) (past before : �
 
 -- the weights that stand at a place of the sheet were written over those of the pairs from one to before another; and the mark before,
 -- with them
-pub record WeightsCopied (s : List ℕ) (first : ℕ) (c : List ℕ) (from to before : ℕ) (c' : List ℕ) (end : WeightsEnd) : Type 0 where
+pub record WeightsCopied (s : List ℕ) (first : ℕ) (c : List ℕ) (from to before : ℕ) (c' : List ℕ) (end : Reached) : Type 0 where
+  pub pair : end.pair ≡ to
   pub code : c' ≡ with_weights c from (numbers_from (to - from) s first)
   pub next : end.next ≡ numbers_past (to - from) s first
   pub mark : end.mark ≡ weights_mark before (numbers_from (to - from) s first)

@@ -1,16 +1,17 @@
 -- "A rule is one of four kinds, each with its own head part." "Each rule has a need and each body literal a weight." The words of a
 -- table after rules were written, from a row and from a pair on.
-use Rattle.std.specs.Prelude.{ℕ, ◌+◌, ◌*◌, ◌≤◌, ◌<◌, ◌≡◌, Bool, eqb, length, get_or, set}
+use Rattle.std.specs.Prelude.{ℕ, ◌+◌, ◌*◌, ◌≤◌, ◌<◌, ◌≡◌, Bool, length, get_or, set}
 use mathlib.Core.List.{List, [], ◌∷◌, Memᴰ}
 use Rattle.rules.specs.Limits.{number_most}
-use Rattle.rules.specs.Rule.{Rule, Sheet, weight, kind_number, choice_rule, ones, no_rule}
+use Rattle.rules.specs.Rule.{Rule, Sheet, kind_number, choice_rule, ones, no_rule}
+use Rattle.rules.specs.declared.kind.Kind.{Kind}
 use Rattle.numbers.specs.declared.Span.{Span}
 use Rattle.sheet.specs.Shown.Encode.{rules_size}
 use Rattle.table.specs.Inner.Words.{row_width, pair_width, seg}
 use Rattle.table.specs.Inner.Rows.{kind_at, need_at, heads_at, positives_at, negatives_at, end_at, row_rule}
 use Rattle.repeats.specs.Inner.Marks.{atoms_mark, body_mark, rule_mark}
 use Rattle.decode.specs.Inner.Words.{with_words}
-use Rattle.decode.specs.Inner.Taken.{Body, body_taken, body_length, rest_taken, need_taken, kind_taken, rule_taken, rule_past}
+use Rattle.decode.specs.Inner.Taken.{Body, body_taken, body_length, weighs, rest_taken, need_taken, rule_taken, rule_past}
 use Rattle.decode.specs.Inner.Pairs.{with_pairs}
 use Rattle.decode.specs.declared.pairs.Reached.{Reached}
 use Rattle.decode.specs.declared.rows.BodyEnds.{BodyEnds}
@@ -64,9 +65,8 @@ pub record TableRoom (c : List ℕ) (i j : ℕ) (rs : List Rule) : Type 0 where
   pub few : j + rules_size rs ≤ number_most
 
 -- the words of a row are numbers of a sheet
-pub record RowAsks (c : List ℕ) (i kind need heads positives negatives : ℕ) : Type 0 where
+pub record RowAsks (c : List ℕ) (i need heads positives negatives : ℕ) : Type 0 where
   pub room : row_width * (i + 1) ≤ length c
-  pub kind_most : kind ≤ number_most
   pub need_most : need ≤ number_most
   pub order : (heads ≤ positives) × (positives ≤ negatives) × (negatives ≤ number_most)
 
@@ -81,23 +81,22 @@ with_literals c j body = with_pairs (with_pairs c j body.pos) (j + length body.p
 pub record BodyPut (s : List ℕ) (weighs : Bool) (at : ℕ) (c : List ℕ) (j before : ℕ) (c' : List ℕ) (ends : BodyEnds) : Type 0 where
   pub code : c' ≡ with_literals c j (body_taken s weighs at)
   pub negatives : ends.negatives ≡ j + length (body_taken s weighs at).pos
-  pub end : ends.end ≡ j + body_length (body_taken s weighs at)
-  pub next : ends.next ≡ (body_taken s weighs at).next
-  pub mark : ends.mark ≡ body_mark before weighs (body_taken s weighs at).pos (body_taken s weighs at).neg
+  pub end : ends.end.pair ≡ j + body_length (body_taken s weighs at)
+  pub next : ends.end.next ≡ (body_taken s weighs at).next
+  pub mark : ends.end.mark ≡ body_mark before weighs (body_taken s weighs at).pos (body_taken s weighs at).neg
 
 -- what a rule needs whose heads stand from one pair on, and whose body follows its bound: room, and numbers of a sheet
-pub record RestAsks (s : List ℕ) (kind : ℕ) (bound : Span) (c : List ℕ) (i heads j : ℕ) : Type 0 where
+pub record RestAsks (s : List ℕ) (kind : Kind) (bound : Span) (c : List ℕ) (i heads j : ℕ) : Type 0 where
   pub row : row_width * (i + 1) ≤ length c
   pub order : heads ≤ j
   pub pairs : pair_width * (j + body_length (rest_taken s kind bound)) ≤ length c
   pub few : j + body_length (rest_taken s kind bound) ≤ number_most
-  pub kind_most : kind ≤ number_most
   pub bound_most : bound.value ≤ number_most
 
-pub record RestPut (s : List ℕ) (kind : ℕ) (bound : Span) (c : List ℕ) (i heads j before : ℕ) (c' : List ℕ) (end : Reached) : Type 0 where
+pub record RestPut (s : List ℕ) (kind : Kind) (bound : Span) (c : List ℕ) (i heads j before : ℕ) (c' : List ℕ) (end : Reached) : Type 0 where
   pub code :
       c'
-      ≡ with_row (with_literals c j (rest_taken s kind bound)) i kind
+      ≡ with_row (with_literals c j (rest_taken s kind bound)) i (kind_number kind)
       (need_taken kind bound.value (body_length (rest_taken s kind bound)))
       heads
       j
@@ -106,13 +105,12 @@ pub record RestPut (s : List ℕ) (kind : ℕ) (bound : Span) (c : List ℕ) (i 
   pub place : end.next ≡ (rest_taken s kind bound).next
   pub mark :
       end.mark
-      ≡ atoms_mark (body_mark before (eqb kind (kind_number weight)) (rest_taken s kind bound).pos (rest_taken s kind bound).neg)
+      ≡ atoms_mark (body_mark before (weighs kind) (rest_taken s kind bound).pos (rest_taken s kind bound).neg)
       (need_taken kind bound.value (body_length (rest_taken s kind bound)) ∷ [])
 
--- the rule at a place is one of the four kinds, and there is room for it
-pub record RuleAsks (s : List ℕ) (at : ℕ) (c : List ℕ) (i j : ℕ) : Type 0 where
-  pub kind : kind_number (rule_taken s at).kind ≡ kind_taken s at
-  pub room : TableRoom c i j (rule_taken s at ∷ [])
+-- there is room for the rule at a place
+abbrev pub RuleAsks : List ℕ → ℕ → List ℕ → ℕ → ℕ → Type 0
+RuleAsks s at c i j = TableRoom c i j (rule_taken s at ∷ [])
 
 pub record RulePut (s : List ℕ) (at : ℕ) (c : List ℕ) (i j : ℕ) (c' : List ℕ) (end : Reached) : Type 0 where
   pub code : c' ≡ with_rule c i j (rule_taken s at)

@@ -1,15 +1,16 @@
 -- "A list is a count (0 to n) and then atoms." "A body is a list of positive atoms and then a list of negated atoms." "A rule is one of
 -- four kinds, each with its own head part." What stands at a place of a sheet where it was read before, taken again without a test,
 -- and the place after it.
-use Rattle.std.specs.Prelude.{ℕ, zero, suc, ◌+◌, Bool, true, List, [], ◌∷◌, eqb, length}
+use Rattle.std.specs.Prelude.{ℕ, zero, suc, ◌+◌, Bool, true, false, List, [], ◌∷◌, length}
 use Rattle.rules.specs.Sum.{pick}
-use Rattle.rules.specs.Rule.{Rule, Weighted, constraint, choice, weight, kind_number, ones}
+use Rattle.rules.specs.Rule.{Rule, Weighted, kind_of, chooses, ones}
+use Rattle.rules.specs.declared.kind.Kind.{Kind}
+use Rattle.rules.specs.declared.kind.Kind.TheVariants.{Basic as basic, Constraint as constraint, Choice as choice, Weight as weight}
 use Rattle.numbers.specs.Answer.{span}
 use Rattle.numbers.specs.Number.{taken_at}
 use Rattle.numbers.specs.Lists.{numbers_from}
 use Rattle.numbers.specs.declared.Span.{Span}
 use Rattle.sheet.specs.RuleMeaning.{paired}
-use Rattle.table.specs.Inner.Rows.{kind_of}
 
 -- the place after so many numbers
 unfoldable pub numbers_past : ℕ → List ℕ → ℕ → ℕ
@@ -49,31 +50,40 @@ body_taken s weighs at = body_of s weighs (list_taken s at) (list_taken s (list_
 abbrev pub body_length : Body → ℕ
 body_length body = length body.pos + length body.neg
 
--- of the kind with this number: its heads, and whether it has a bound and weights
-unfoldable pub heads_taken : List ℕ → ℕ → ℕ → List ℕ
-heads_taken s kind at = pick (eqb kind (kind_number choice)) (list_taken s at) ((taken_at s at).value ∷ [])
+-- of this kind: its heads, and whether it has a bound and weights
+unfoldable pub heads_taken : List ℕ → Kind → ℕ → List ℕ
+heads_taken s kind at = pick (chooses kind) (list_taken s at) ((taken_at s at).value ∷ [])
 
-unfoldable pub heads_past : List ℕ → ℕ → ℕ → ℕ
-heads_past s kind at = pick (eqb kind (kind_number choice)) (list_past s at) (taken_at s at).next
+unfoldable pub heads_past : List ℕ → Kind → ℕ → ℕ
+heads_past s kind at = pick (chooses kind) (list_past s at) (taken_at s at).next
 
-unfoldable pub has_bound : ℕ → Bool
-has_bound kind = pick (eqb kind (kind_number constraint)) true (eqb kind (kind_number weight))
+abbrev pub has_bound : Kind → Bool
+has_bound basic = false
+has_bound constraint = true
+has_bound choice = false
+has_bound weight = true
 
-unfoldable pub bound_taken : List ℕ → ℕ → ℕ → Span
+abbrev pub weighs : Kind → Bool
+weighs basic = false
+weighs constraint = false
+weighs choice = false
+weighs weight = true
+
+unfoldable pub bound_taken : List ℕ → Kind → ℕ → Span
 bound_taken s kind at = pick (has_bound kind) (taken_at s at) (span 0 at at)
 
-unfoldable pub need_taken : ℕ → ℕ → ℕ → ℕ
+unfoldable pub need_taken : Kind → ℕ → ℕ → ℕ
 need_taken kind bound length = pick (has_bound kind) bound length
 
--- the body after a bound, of the kind with this number
-abbrev pub rest_taken : List ℕ → ℕ → Span → Body
-rest_taken s kind bound = body_taken s (eqb kind (kind_number weight)) bound.next
+-- the body after a bound, of this kind
+abbrev pub rest_taken : List ℕ → Kind → Span → Body
+rest_taken s kind bound = body_taken s (weighs kind) bound.next
 
--- a rule of the kind with this number, with these heads, and with its body after its bound
-abbrev pub rule_of : List ℕ → ℕ → List ℕ → Span → Rule
+-- a rule of this kind, with these heads, and with its body after its bound
+abbrev pub rule_of : List ℕ → Kind → List ℕ → Span → Rule
 rule_of s kind heads bound =
     record {
-      kind = kind_of kind;
+      kind = kind;
       heads = heads;
       need = need_taken kind bound.value (body_length (rest_taken s kind bound));
       pos = (rest_taken s kind bound).pos;
@@ -81,8 +91,8 @@ rule_of s kind heads bound =
     }
 
 -- the rule at a place: its kind, its bound, and the rule
-abbrev pub kind_taken : List ℕ → ℕ → ℕ
-kind_taken s at = (taken_at s at).value
+abbrev pub kind_taken : List ℕ → ℕ → Kind
+kind_taken s at = kind_of (taken_at s at).value
 
 unfoldable pub rule_bound : List ℕ → ℕ → Span
 rule_bound s at = bound_taken s (kind_taken s at) (heads_past s (kind_taken s at) (taken_at s at).next)

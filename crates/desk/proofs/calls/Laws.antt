@@ -1,306 +1,232 @@
--- Each call, put together: a gate that stops it is its refusal, and else its task, handed over, is its answer.
-use Prim.Native.Nat.{ℕ, ◌≤◌}
-use mathlib.Core.Path.{◌≡◌, refl, sym, ◌∙◌, ap, subst}
+-- Each call, put together: a gate that stops it is its refusal, and else its work, handed over, is its answer.
+use Prim.Native.Nat.{ℕ, ◌-◌, ◌≤◌, ◌<◌}
+use mathlib.Core.Path.{◌≡◌, refl, sym, ◌∙◌, ap, ap₂, subst}
 use mathlib.Core.Bool.{Bool, true, false}
-use mathlib.Core.List.{List}
+use mathlib.Core.List.{List, [], ◌∷◌}
 use native.Mathlib.Omega.{arith}
-use lib.ListN.{length, length-replicate}
+use lib.ListN.{length, length-replicate, get_or}
 use lib.Dec.{eqb}
 use lib.IntN.{ℤ}
+use Rattle.std.specs.Prelude.{Option, Some, None, Result, Ok, Err, is_ok}
 use Rattle.rules.specs.Limits.{atoms_most}
-use Rattle.rules.specs.Sum.{pick}
-use Rattle.rules.specs.Rule.{Sheet, nth_rule, Within, part_of}
-use Rattle.rules.specs.Stable.{Model, First}
-use Rattle.rules.specs.Map.{Map, Holding, Over, side, is, Whole, blank}
+use Rattle.rules.specs.Rule.{Rule, Sheet, nth_rule, no_rule, Within, part_of}
+use Rattle.rules.specs.Stable.{Model, First, NoModel}
+use Rattle.rules.specs.Map.{Map, Literal, Holding, Over, side, is, signed, margin, Whole, blank}
 use Rattle.rules.specs.Forcing.{Closed, Least, computed}
-use Rattle.rules.specs.Inner.Bytes.{Room}
+use Rattle.rules.specs.Inner.Bytes.{Room, MapBytes}
 use Rattle.rules.proofs.Fits.{Numbered}
+use Rattle.rules.proofs.Shuffle.{computed_same}
 use Rattle.rules.proofs.Testing.{closed_model, clash_no_model}
 use Rattle.numbers.specs.declared.Refusal.{Refusal}
-use Rattle.sheet.specs.Sheet.{sheet_read, sheet_then}
+use Rattle.sheet.specs.Sheet.{sheet_read}
 use Rattle.sheet.specs.Meaning.{sheet_meant}
 use Rattle.sheet.specs.declared.Outline.{Outline}
-use Rattle.sheet.specs.declared.SheetRead.TheVariants.{Accepted, Refused as RefusedRead}
-use Rattle.sheet.specs.declared.SheetRead.{SheetRead}
 use Rattle.sheet.proofs.sheet.Ran.{sheet_ran}
 use Rattle.sheet.proofs.Accepted.{numbered}
 use Rattle.sheet.proofs.sheet.Written.{meant}
-use Rattle.gate.specs.Inner.Fit.{GateFits}
+use Rattle.table.specs.Inner.Rows.{row_rule, table_sheet, Laid}
 use Rattle.gate.specs.Scan.{is_contradiction}
-use Rattle.gate.specs.Gate.{sheet_gate, open_gate, solve_gate, test_gate, pin_gate, margin_gate, part_gate}
-use Rattle.gate.specs.declared.Task.{Task}
-use Rattle.gate.specs.declared.Task.TheVariants.{Stay, Open, Pin, Solve, Test, Rule}
-use Rattle.gate.specs.declared.Gate.{Gate}
-use Rattle.gate.specs.declared.Gate.TheVariants.{Stop, Go}
-use Rattle.gate.specs.declared.Ask.TheVariants.{Margin, Part}
+use Rattle.gate.specs.Gate.{room_gate, test_gate, pin_gate, margin_gate, part_gate}
 use Rattle.gate.proofs.scan.Maps.{contradiction_bytes}
-use Rattle.gate.proofs.Calls.{Lent, Through, open_goes, solve_goes, pin_through, test_goes, margin_through, part_through}
+use Rattle.gate.proofs.Calls.{Lent, Through, room_goes, pin_through, test_goes, margin_through, part_through}
+use Rattle.weigh.specs.declared.Clash.{Clash}
 use Rattle.search.specs.Inner.Search.{FirstIn}
-use Rattle.task.specs.Inner.Perform.{ClosedFor, Comes, Performs, item_from}
-use Rattle.task.specs.declared.Answer.{Answer}
-use Rattle.task.proofs.bytes.Laws.{copied_side, copied_undecided}
-use Rattle.desk.specs.Promise.{Upon, Checks, Parts, Ends, Opens, PinEnds, Pins, SolveEnds, Solves, Tests, Margins, PinAsks, part_is}
-use Rattle.desk.specs.Inner.Serve.{asked_rule, ServedBy, Serves, HandedMap, HandsMap, HandedModel, HandsModel}
-use Rattle.desk.specs.declared.Checked.TheVariants.{Accepted as AcceptedSheet, Refused as RefusedSheet}
-use Rattle.desk.specs.declared.Opened.{Opened}
-use Rattle.desk.specs.declared.Opened.TheVariants.{Contradiction as Contradicted, Refused as RefusedMap}
-use Rattle.desk.specs.declared.Solved.{Solved}
-use Rattle.desk.specs.declared.Solved.TheVariants.{Refused as RefusedSolve}
-use Rattle.desk.specs.declared.Tested.TheVariants.{Stable as IsStable, NotStable, Refused as RefusedTest}
-use Rattle.desk.specs.declared.PartRead.TheVariants.{Value, Nothing, Refused as RefusedPart}
-use Rattle.desk.specs.declared.MarginRead.TheVariants.{Is as MarginIs, Refused as RefusedMargin}
-use Rattle.desk.specs.declared.run.Served.{Served}
-use Rattle.desk.specs.declared.run.Served.TheVariants.{Done, Refused}
-use Rattle.desk.proofs.hand.Laws.{threes_stay}
+use Rattle.task.specs.Inner.Closed.{ClosedFor, Finishes}
+use Rattle.task.proofs.Shuffled.{closed_for, over_shuffled, first_in}
+use Rattle.task.proofs.closed.Laws.{held}
+use Rattle.desk.specs.Promise.{Opened, Searched, Upon, Checks, Parts, Ends, Opens, PinEnds, Pins, SolveEnds, Solves, TestEnds, Tests, Margins, PinAsks, threes}
+use Rattle.desk.specs.Inner.Run.{Stands}
+use Rattle.desk.specs.Inner.Hand.{first_bytes, Handed, Hands}
+use Rattle.desk.specs.declared.Solved.TheVariants.{Model as ModelFound, NoModel as NoneFound}
+use Rattle.desk.proofs.hand.Laws.{threes_stay, first_byte, first_side, first_written, first_undecided}
 
 -- a gate that is known
 pub upon_stop :
-    (s : List ℕ) (A : Refusal → Type 0) (B : Sheet → Type 0) {g : Gate} (why : Refusal) → g ≡ Stop why → A why → Upon s g A B
-upon_stop s A B why e p = subst (λ (x : Gate). Upon s x A B) (sym e) p
+    (s : List ℕ) (A : Refusal → Type 0) (B : Sheet → Type 0) {g : Result Outline Refusal} (why : Refusal) → g ≡ Err why → A why → Upon s g A B
+upon_stop s A B why e p = subst (λ (x : Result Outline Refusal). Upon s x A B) (sym e) p
 
 pub upon_go :
-    (s : List ℕ) (A : Refusal → Type 0) (B : Sheet → Type 0) {g : Gate} {o : Outline} {t : Task} → g ≡ Go o t → B (sheet_meant s o)
+    (s : List ℕ) (A : Refusal → Type 0) (B : Sheet → Type 0) {g : Result Outline Refusal} {o : Outline} → g ≡ Ok o → B (sheet_meant s o)
     → Upon s g A B
-upon_go s A B e p = subst (λ (x : Gate). Upon s x A B) (sym e) p
+upon_go s A B e p = subst (λ (x : Result Outline Refusal). Upon s x A B) (sym e) p
 
-same_refusal : {x y : Refusal} → Refused x ≡ Refused y → x ≡ y
-same_refusal e = cc
-
-done_refused : {a : Answer} {y : Refusal} → Done a ≡ Refused y → ⊥
-done_refused e = let z : ◌≡◌ {A = ℕ} 0 1 = cc in omega arith
-
--- what was performed where a call went on
-pub record Performed (s : List ℕ) (g : Gate) (m w w' : List ℕ) (a : Answer) : Type 0 where
-  pub outline : Outline
-  pub task : Task
-  pub goes : g ≡ Go outline task
-  pub performs : Performs (sheet_meant s outline) (asked_rule (sheet_meant s outline) task) m task w w' a
-
-module _ {s m w w' : List ℕ} {g g' : Gate} {r : Served} (is : g ≡ g') (p : Serves s g m w w' r) where
-  pub stopped : (why : Refusal) → r ≡ Refused why → g' ≡ Stop why
-  stopped why e = sym is ∙ by g (subst (ServedBy s g m w w') e p.served)
-    where
-      by : (x : Gate) → ServedBy s x m w w' (Refused why) → x ≡ Stop why
-      by (Stop y) h = ap Stop (sym (same_refusal h))
-      by (Go o t) h = absurd h
-
-  pub went : (a : Answer) → r ≡ Done a → Performed s g' m w w' a
-  went a e = by g is (subst (ServedBy s g m w w') e p.served)
-    where
-      by : (x : Gate) → x ≡ g' → ServedBy s x m w w' (Done a) → Performed s g' m w w' a
-      by (Stop y) i h = absurd (done_refused h)
-      by (Go o t) i h = record { outline = o; task = t; goes = sym i; performs = h }
-
--- the map that was worked on and the lent one have room for the answer's atoms
-pub rooms :
-    {s m w w' : List ℕ} {g : Gate} {a : Answer} → ((o : Outline) (t : Task) → g ≡ Go o t → Lent s m o) → w ≡ blank → Performed s g m w w' a
-    → Room a.atoms w' × Room a.atoms m
+-- a sheet has no more atoms than a map of its own has bytes
+pub few_atoms : (s : List ℕ) (o : Outline) → sheet_read s ≡ Ok o → o.atoms ≤ atoms_most
 unfolding sheet_meant
-rooms {s} {m} {w} {w'} {g} {a} lent e p =
-    let l = lent p.outline p.task p.goes in
-    let
-    few : p.outline.atoms ≤ atoms_most
-    = (sheet_ran s p.outline l.accepted).well_formed.atoms
-    in
-    let long : length w ≡ atoms_most = ap length e ∙ length-replicate atoms_most 0 in (
-      omega (arith, p.performs.atoms, p.performs.long, few, long),
-      omega (arith, p.performs.atoms, l.room),
-    )
+few_atoms s o e = (sheet_ran s o e).well_formed.atoms
 
 -- the map handed over is the end of the question
-pub map_ends :
-    (sh : Sheet) (Q : Map → Type 0) {a : Answer} {work m m' : List ℕ} {r : Opened} → ClosedFor sh Q work a.found a.number
-    → a.atoms ≡ sh.atoms → Room a.atoms work × Room a.atoms m → HandsMap a work m m' r → Ends sh Q m m' r
-map_ends sh Q {a} {work} {m} {m'} {r} c e room h =
-    by a.found a.number c (subst (λ (n : ℕ). HandedMap a.found n a.number work m m' r) e h.handed)
-  where
-    by : (b : Bool) (k : ℕ) → ClosedFor sh Q work b k → HandedMap b sh.atoms k work m m' r → Ends sh Q m m' r
-    by true k (l, u) (q, copied) =
-        subst
-        (Ends sh Q m m')
-        (sym q)
-        (record {
-          least = subst (λ (M : Map). Least (Closed sh.rules sh.atoms) Q M) (copied_side sh.atoms work m m' copied) l;
-          open' =
-              u
-              ∙ copied_undecided
-              sh.atoms
-              work
-              m
-              m'
-              (subst (λ (n : ℕ). Room n work) e room.0)
-              (subst (λ (n : ℕ). Room n m) e room.1)
-              copied;
-          written = copied.written;
-        })
-    by false k none (q, bytes) = subst (Ends sh Q m m') (sym q) (record { none = none; bytes = bytes })
-
-pub model_ends :
-    (sh : Sheet) {a : Answer} {work m m' : List ℕ} {r : Solved} → FirstIn sh.atoms (Model sh) a.found work → a.atoms ≡ sh.atoms
-    → HandsModel a work m m' r → SolveEnds sh m m' r
-model_ends sh {a} {work} {m} {m'} {r} f e h =
-    by a.found f (subst (λ (n : ℕ). HandedModel a.found n work m m' r) e h.handed)
-  where
-    by : (b : Bool) → FirstIn sh.atoms (Model sh) b work → HandedModel b sh.atoms work m m' r → SolveEnds sh m m' r
-    by true (first, whole) (q, copied) =
-        subst
-        (SolveEnds sh m m')
-        (sym q)
-        (record {
-          first = subst (λ (M : Map). First sh (is 1 M)) (copied_side sh.atoms work m m' copied) first;
-          whole = λ i l. subst (Within 2) (sym (copied.bytes i l)) (whole i l);
-          written = copied.written;
-        })
-    by false none (q, bytes) = subst (SolveEnds sh m m') (sym q) (none, bytes)
-
--- what a task came to, where the task is known
-pub came : {s m w w' : List ℕ} {g : Gate} {a : Answer} (p : Performed s g m w w' a) (t : Task) → p.task ≡ t → Comes (sheet_meant s p.outline) (asked_rule (sheet_meant s p.outline) t) m t w' a
-came {s} {m} {w} {w'} {g} {a} p t e = subst (λ (x : Task). Comes (sheet_meant s p.outline) (asked_rule (sheet_meant s p.outline) x) m x w' a) e p.performs.comes
-
--- a contradiction stays one
-stays :
-    (sh : Sheet) {a : Answer} {w' m m' : List ℕ} {r : Opened} → is_contradiction sh.atoms m ≡ true → a.found ≡ false → a.atoms ≡ sh.atoms → Room a.atoms m
-    → HandsMap a w' m m' r → (r ≡ Contradicted) × (m' ≡ m)
-stays sh {a} {w'} {m} {m'} {r} c none e room h =
-    let
-    (q, bytes) =
+map_ends :
+    (sh : Sheet) (Q : Map → Type 0) {work m m' : List ℕ} (r : Result ℕ Clash) {a : Option ℕ} → ClosedFor sh Q work r → Room sh.atoms work
+    → Room sh.atoms m → Handed sh.atoms r work m m' a → Ends sh Q m m' (Ok a)
+map_ends sh Q {work} {m} {m'} (Ok k) {a} (l, u) worked lent (q, bytes) =
     subst
-    (λ (n : ℕ). HandedMap false n a.number w' m m' r)
-    e
-    (subst (λ (b : Bool). HandedMap b a.atoms a.number w' m m' r) none h.handed)
-    in
-    (q, bytes ∙ sym (threes_stay sh.atoms m (subst (λ (n : ℕ). Room n m) e room) (contradiction_bytes sh.atoms m c).1))
+    (λ (x : Option ℕ). Ends sh Q m m' (Ok x))
+    (sym q)
+    (subst
+    (λ (x : List ℕ). Ends sh Q m x (Ok (Some k)))
+    (sym bytes)
+    (record {
+      least = subst (λ (M : Map). Least (Closed sh.rules sh.atoms) Q M) (first_side sh.atoms work m worked) l;
+      open' = u ∙ first_undecided sh.atoms work m worked lent;
+      written = first_written sh.atoms work m worked lent;
+    }))
+map_ends sh Q {work} {m} {m'} (Err clash) none worked lent (q, bytes) =
+    subst (λ (x : Option ℕ). Ends sh Q m m' (Ok x)) (sym q) (record { none = none; bytes = bytes })
 
--- the calls that go on
-module _ {s m w w' : List ℕ} {a : Answer} where
-  pub opens : Performed s (open_gate s m) m w w' a → w ≡ blank → {m' : List ℕ} {r : Opened} → HandsMap a w' m m' r → Opens s m m' r
-  opens p e h =
-      record {
-        promise =
-            upon_go s _ _ p.goes
-            (map_ends
-            (sheet_meant s p.outline)
-            (Holding (computed (sheet_meant s p.outline)))
-            (came p Open (open_goes s m p.goes).0)
-            p.performs.atoms
-            (rooms (λ o t g. (open_goes s m g).1) e p)
-            h);
-      }
+-- the calls that go on, each with the table that its work was done on
+module _ {s m w' m' : List ℕ} {o : Outline} {c : List ℕ} {n count : ℕ} {d : List ℕ} {k at : ℕ} {wanted : ℕ} (on : Stands s o wanted c n count d k at) where
+  abbrev sh : Sheet
+  sh = sheet_meant s o
 
-  pub solves : Performed s (solve_gate s m) m w w' a → {m' : List ℕ} {r : Solved} → HandsModel a w' m m' r → Solves s m m' r
-  solves p h =
-      record {
-        promise =
-            upon_go s _ _ p.goes
-            (model_ends (sheet_meant s p.outline) (came p Solve (solve_goes s m p.goes).0) p.performs.atoms h);
-      }
+  abbrev ts : Sheet
+  ts = table_sheet c n count
 
-  pub pins : (x v : ℕ) → Performed s (pin_gate s m x v) m w w' a → w ≡ blank → {m' : List ℕ} {r : Opened} → HandsMap a w' m m' r → Pins s m x v m' r
-  unfolding sheet_meant pick
-  pins x v p e {m'} {r} h = record { promise = upon_go s _ _ p.goes (by (is_contradiction p.outline.atoms m) refl) }
-    where
-      sh : Sheet
-      sh = sheet_meant s p.outline
-
-      through : Through s m x v p.outline p.task
-      through = pin_through s m x v p.goes
-
-      room : Room a.atoms w' × Room a.atoms m
-      room = rooms (λ o t g. (pin_through s m x v g).lent) e p
-
-      as_is : (b : Bool) → is_contradiction p.outline.atoms m ≡ b → Comes sh (asked_rule sh (pick b Stay (Pin (record { number = x }) (eqb v 1)))) m (pick b Stay (Pin (record { number = x }) (eqb v 1))) w' a
-      as_is b c =
-          came p
-          (pick b Stay (Pin (record { number = x }) (eqb v 1)))
-          (through.task ∙ ap (λ (y : Bool). pick y Stay (Pin (record { number = x }) (eqb v 1))) c)
-
-      by : (b : Bool) → is_contradiction p.outline.atoms m ≡ b → PinEnds b sh m x v m' r
-      by true c = stays sh c (as_is true c) p.performs.atoms room.1 h
-      by false c = map_ends sh (PinAsks sh m x v) (as_is false c) p.performs.atoms room h
-
-  module _ (p : Performed s (test_gate s m) m w w' a) where
-    abbrev sheet : Sheet
-    sheet = sheet_meant s p.outline
-
-    whole : Whole p.outline.atoms m
-    whole = (test_goes s m p.goes).2
-
-    ok : Numbered sheet
-    ok = numbered s sheet (meant s p.outline (test_goes s m p.goes).1.accepted)
-
-    closed : (b : Bool) → a.found ≡ b → ClosedFor sheet (Over (side sheet.atoms m) (computed sheet)) w' b a.number
-    closed b e =
-        subst
-        (λ (x : Bool). ClosedFor sheet (Over (side sheet.atoms m) (computed sheet)) w' x a.number)
-        e
-        (came p Test (test_goes s m p.goes).0)
-
-    pub tests_yes : a.found ≡ true → Tests s m IsStable
+  module _ (laid : Laid c n count) {r : Result ℕ Clash} {a : Option ℕ} where
+    pub opens :
+        room_gate s m ≡ Ok o → Finishes ts (Over (side n blank) (computed ts)) blank w' r → Room o.atoms w' → Hands o.atoms r w' m m' a
+        → Opens s m m' (Ok a)
     unfolding sheet_meant
-    tests_yes f = record { promise = upon_go s _ _ p.goes (closed_model ok m whole (closed true f).0) }
+    opens g f worked h =
+        record {
+          promise =
+              upon_go s _ _ g
+              (map_ends sh (Holding (computed sh)) r
+              (closed_for on.sheet w' (Over (side n blank) (computed ts)) (Holding (computed sh))
+              (λ X q. subst (λ (ls : List Literal). Holding ls X) (computed_same on.sheet) q.holds)
+              (λ X q. held laid X (subst (λ (ls : List Literal). Holding ls X) (sym (computed_same on.sheet)) q))
+              r
+              f.closed)
+              worked
+              (room_goes s m g).room
+              h.handed);
+        }
 
-    pub tests_no : a.found ≡ false → Tests s m NotStable
+  -- on a copy of the lent map
+  module _ {w : List ℕ} (copied : w ≡ first_bytes o.atoms m blank) {r : Result ℕ Clash} where
+    same_side : Room o.atoms m → side o.atoms w ≡ side o.atoms m
+    same_side room = ap (λ (x : List ℕ). side o.atoms x) copied ∙ sym (first_side o.atoms m blank room)
+
+    asked :
+        {ps qs : List Literal} → ps ≡ qs → Room o.atoms m → ClosedFor ts (Over (side n w) ps) w' r → ClosedFor sh (Over (side o.atoms m) qs) w' r
     unfolding sheet_meant
-    tests_no f = record { promise = upon_go s _ _ p.goes (clash_no_model ok m whole (closed false f)) }
+    asked {ps} {qs} e room q =
+        subst
+        (λ (M : Map). ClosedFor sh (Over M qs) w' r)
+        (same_side room)
+        (over_shuffled on.sheet w w' e r q)
 
-  pub margins : (k : ℕ) → Performed s (margin_gate s m k) m w w' a → {z : ℤ} → z ≡ a.margin → Margins s m k (MarginIs z)
-  margins k p e =
+    pub pins :
+        {a v : ℕ} {x : Option ℕ} → pin_gate s m a v ≡ Ok o → is_contradiction o.atoms m ≡ false
+        → Finishes ts (Over (side n w) (signed (eqb v 1) a ∷ [])) w w' r → Room o.atoms w' → Hands o.atoms r w' m m' x
+        → Pins s m a v m' (Ok x)
+    unfolding sheet_meant
+    pins {a} {v} {x} g none f worked h =
+        let room = (pin_through s m a v g).lent.room in
+        record {
+          promise =
+              upon_go s _ _ g
+              (subst
+              (λ (b : Bool). PinEnds b sh m a v m' (Ok x))
+              (sym none)
+              (map_ends sh (PinAsks sh m a v) r (asked refl room f.closed) worked room h.handed));
+        }
+
+    pub tests : {b : Bool} → test_gate s m ≡ Ok o → Finishes ts (Over (side n w) (computed ts)) w w' r → b ≡ is_ok r → Tests s m (Ok b)
+    unfolding sheet_meant
+    tests {b} g f e = record { promise = upon_go s _ _ g (subst (λ (y : Bool). TestEnds sh m (Ok y)) (sym e) (by r (asked (computed_same on.sheet) room f.closed))) }
+      where
+        goes : Lent s m o × Whole o.atoms m
+        goes = test_goes s m g
+
+        room : Room o.atoms m
+        room = goes.0.room
+
+        ok : Numbered sh
+        ok = numbered s sh (meant s o goes.0.accepted)
+
+        by : (y : Result ℕ Clash) → ClosedFor sh (Over (side o.atoms m) (computed sh)) w' y → TestEnds sh m (Ok (is_ok y))
+        by (Ok u) (l, z) = closed_model ok m goes.1 l
+        by (Err clash) q = clash_no_model ok m goes.1 q
+
+  -- the first model
+  module _ {r : Option (List ℕ)} (g : room_gate s m ≡ Ok o) (f : FirstIn n (Model ts) r) where
+    pub solves_model : {model : List ℕ} → r ≡ Some model → Room o.atoms model → m' ≡ first_bytes o.atoms model m → Solves s m m' (Ok ModelFound)
+    unfolding sheet_meant
+    solves_model {model} e room bytes =
+        let (first, whole) = subst (FirstIn o.atoms (Model sh)) e (first_in on.sheet r f) in
+        record {
+          promise =
+              upon_go s _ _ g
+              (subst
+              (λ (x : List ℕ). SolveEnds sh m x (Ok ModelFound))
+              (sym bytes)
+              (record {
+                first = subst (λ (M : Map). First sh (is 1 M)) (first_side o.atoms model m room) first;
+                whole = λ i l. subst (Within 2) (sym (first_byte o.atoms model m room i l)) (whole i l);
+                written = first_written o.atoms model m room (room_goes s m g).room;
+              }));
+        }
+
+    pub solves_none : r ≡ None → m' ≡ threes o.atoms m → Solves s m m' (Ok NoneFound)
+    unfolding sheet_meant
+    solves_none e bytes =
+        record { promise = upon_go s _ _ g (subst (FirstIn o.atoms (Model sh)) e (first_in on.sheet r f), bytes) }
+
+-- what is asked of a rule, on its row
+module _ {s m : List ℕ} {o : Outline} {number : ℕ} {c : List ℕ} {n count : ℕ} {d : List ℕ} {k at : ℕ} (on : Stands s o (number - 1) c n count d k at) where
+  same_rule : Within o.rules.value number → row_rule d at ≡ nth_rule (sheet_meant s o) number
+  same_rule w = on.row (omega (arith, w.low, w.high))
+
+  pub margins : {z : ℤ} → margin_gate s m number ≡ Ok o → z ≡ margin (row_rule d at) (side k m) → Margins s m number (Ok z)
+  unfolding sheet_meant
+  margins {z} g e =
       record {
         promise =
-            upon_go s _ _ p.goes
-            (ap MarginIs (e ∙ came p (Rule (record { number = k }) Margin) (margin_through s m k p.goes).0.task));
+            upon_go s _ _ g
+            (ap (λ (y : ℤ). Ok y)
+            (e ∙ ap₂ (λ (r : Rule) (j : ℕ). margin r (side j m)) (same_rule (margin_through s m number g).0) on.row_atoms));
       }
 
-  module _ (k q i : ℕ) (p : Performed s (part_gate s k q i) m w w' a) where
-    told : (b : Bool) → a.found ≡ b → item_from b a.number ≡ part_of (nth_rule (sheet_meant s p.outline) k) q i
-    told b e =
-        subst
-        (λ (x : Bool). item_from x a.number ≡ part_of (nth_rule (sheet_meant s p.outline) k) q i)
-        e
-        (came p (Rule (record { number = k }) (Part q i)) (part_through s k q i p.goes).0.task)
+  pub parts : {p i : ℕ} {x : Option ℕ} → part_gate s number ≡ Ok o → x ≡ part_of (row_rule d at) p i → Parts s number p i (Ok x)
+  parts {p} {i} {x} g e =
+      record {
+        promise =
+            upon_go s _ _ g (ap (λ (y : Option ℕ). Ok y) (e ∙ ap (λ (r : Rule). part_of r p i) (same_rule (part_through s number g).0)));
+      }
 
-    pub parts_value : a.found ≡ true → Parts s k q i (Value a.number)
-    parts_value f = record { promise = upon_go s _ _ p.goes (ap part_is (told true f)) }
-
-    pub parts_nothing : a.found ≡ false → Parts s k q i Nothing
-    parts_nothing f = record { promise = upon_go s _ _ p.goes (ap part_is (told false f)) }
+-- a pin on a contradiction
+pub pins_stay : {s m : List ℕ} {a v : ℕ} {o : Outline} → pin_gate s m a v ≡ Ok o → is_contradiction o.atoms m ≡ true → Pins s m a v m (Ok None)
+unfolding sheet_meant
+pins_stay {s} {m} {a} {v} {o} g c =
+    record { promise = upon_go s _ _ g (subst (λ (b : Bool). PinEnds b (sheet_meant s o) m a v m (Ok None)) (sym c) (refl, refl)) }
 
 -- check, by the sheet that was read
-pub checks_refused : (s : List ℕ) (why : Refusal) → sheet_read s ≡ RefusedRead why → Checks s (RefusedSheet why)
-unfolding sheet_gate sheet_then
-checks_refused s why e =
-    record { promise = upon_stop s _ _ why (ap (λ (x : SheetRead). sheet_then Stop x (λ o. Go o Stay)) e) refl }
+pub checks_refused : (s : List ℕ) (why : Refusal) → sheet_read s ≡ Err why → Checks s (Err why)
+checks_refused s why e = record { promise = upon_stop s _ _ why e refl }
 
-pub checks_accepted : (s : List ℕ) (o : Outline) → sheet_read s ≡ Accepted o → Checks s (AcceptedSheet o.atoms o.rules.value)
-unfolding sheet_gate sheet_then sheet_meant
+pub checks_accepted :
+    (s : List ℕ) (o : Outline) → sheet_read s ≡ Ok o → Checks s (Ok (record { atoms = o.atoms; rules = o.rules.value }))
+unfolding sheet_meant
 checks_accepted s o e =
-    record {
-      promise =
-          upon_go s _ _
-          (ap (λ (x : SheetRead). sheet_then Stop x (λ y. Go y Stay)) e)
-          (ap (λ (k : ℕ). AcceptedSheet o.atoms k) (sym (sheet_ran s o e).count));
-    }
+    record { promise = upon_go s _ _ e (ap (λ (k : ℕ). Ok (record { atoms = o.atoms; rules = k })) (sym (sheet_ran s o e).count)) }
 
 -- the calls that are stopped
 module _ (s m : List ℕ) (why : Refusal) where
-  pub opens_refused : open_gate s m ≡ Stop why → Opens s m m (RefusedMap why)
+  pub opens_refused : room_gate s m ≡ Err why → Opens s m m (Err why)
   opens_refused e = record { promise = upon_stop s _ _ why e (refl, refl) }
 
-  pub pins_refused : (a v : ℕ) → pin_gate s m a v ≡ Stop why → Pins s m a v m (RefusedMap why)
+  pub pins_refused : (a v : ℕ) → pin_gate s m a v ≡ Err why → Pins s m a v m (Err why)
   pins_refused a v e = record { promise = upon_stop s _ _ why e (refl, refl) }
 
-  pub solves_refused : solve_gate s m ≡ Stop why → Solves s m m (RefusedSolve why)
+  pub solves_refused : room_gate s m ≡ Err why → Solves s m m (Err why)
   solves_refused e = record { promise = upon_stop s _ _ why e (refl, refl) }
 
-  pub tests_refused : test_gate s m ≡ Stop why → Tests s m (RefusedTest why)
+  pub tests_refused : test_gate s m ≡ Err why → Tests s m (Err why)
   tests_refused e = record { promise = upon_stop s _ _ why e refl }
 
-  pub margins_refused : (k : ℕ) → margin_gate s m k ≡ Stop why → Margins s m k (RefusedMargin why)
+  pub margins_refused : (k : ℕ) → margin_gate s m k ≡ Err why → Margins s m k (Err why)
   margins_refused k e = record { promise = upon_stop s _ _ why e refl }
 
-pub parts_refused : (s : List ℕ) (why : Refusal) (k p i : ℕ) → part_gate s k p i ≡ Stop why → Parts s k p i (RefusedPart why)
+pub parts_refused : (s : List ℕ) (why : Refusal) (k p i : ℕ) → part_gate s k ≡ Err why → Parts s k p i (Err why)
 parts_refused s why k p i e = record { promise = upon_stop s _ _ why e refl }
-
--- a gate as it was computed fits as the definition does
-pub fits_as : (s m : List ℕ) {g g' : Gate} → g ≡ g' → GateFits s g' m → GateFits s g m
-fits_as s m e f = subst (λ (x : Gate). GateFits s x m) (sym e) f

@@ -1,25 +1,18 @@
 -- "These versions have to break a promise: a reader that refuses all sheets; a solver that always says "none"; an open or pin that
 -- forces nothing beyond the pins; a pin that leaves the map alone; an open that does all later guessing at once and a pin that then
 -- does nothing; an undecided count that isn't the number of zero bytes."
-use Rattle.std.specs.Prelude.{ℕ, zero, suc, ◌<◌, ◌≡◌, ◌⊎◌, Bool, set, eqb}
+use Rattle.std.specs.Prelude.{ℕ, zero, suc, ◌<◌, ◌≡◌, ◌⊎◌, Bool, set, eqb, Result, Ok, Err}
 use mathlib.Core.List.{List, [], ◌∷◌, map, Memᴰ}
 use Rattle.rules.specs.Map.{Literal, side, want, signed, undecided}
 use Rattle.rules.specs.Forcing.{computed}
 use Rattle.numbers.specs.Shown.Encode.{IsBytes}
 use Rattle.numbers.specs.Answer.{refusal}
 use Rattle.numbers.specs.declared.Refusal.{Refusal}
+use Rattle.numbers.specs.declared.reason.Reason.TheVariants.{EndsEarly}
 use Rattle.sheet.specs.Meaning.{sheet_meant}
 use Rattle.sheet.specs.declared.Outline.{Outline}
-use Rattle.gate.specs.Gate.{open_gate, pin_gate}
-use Rattle.gate.specs.declared.Task.{Task}
-use Rattle.gate.specs.declared.Gate.{Gate}
-use Rattle.gate.specs.declared.Gate.TheVariants.{Stop, Go}
-use Rattle.desk.specs.Promise.{Checks, Opens, Pins, Solves}
-use Rattle.desk.specs.declared.Checked.{Checked}
-use Rattle.desk.specs.declared.Checked.TheVariants.{Accepted, Refused as RefusedSheet}
-use Rattle.desk.specs.declared.Opened.{Opened}
-use Rattle.desk.specs.declared.Opened.TheVariants.{Closed as ClosedWith}
-use Rattle.desk.specs.declared.Solved.{Solved}
+use Rattle.gate.specs.Gate.{room_gate, pin_gate}
+use Rattle.desk.specs.Promise.{Checked, Opened, Searched, closed_with, Checks, Opens, Pins, Solves}
 use Rattle.desk.specs.declared.Solved.TheVariants.{Model as ModelFound, NoModel as NoneFound}
 
 -- what a call leaves: its answer, and every lent byte
@@ -32,7 +25,7 @@ pub record Version : Type 0 where
   pub check : List ℕ → Checked
   pub open' : List ℕ → List ℕ → Leaves Opened
   pub pin : List ℕ → List ℕ → ℕ → ℕ → Leaves Opened
-  pub solve : List ℕ → List ℕ → Leaves Solved
+  pub solve : List ℕ → List ℕ → Leaves Searched
 
 pub data Call : Type 0 where
   check_call open_call pin_call solve_call : Call
@@ -52,21 +45,21 @@ Keeps v solve_call = (s m : List ℕ) → IsBytes s → IsBytes m → Solves s m
 -- "closed" with a number that is not that of the zero bytes
 pub record Miscounts (n : ℕ) (l : Leaves Opened) : Type 0 where
   pub count : ℕ
-  pub says : l.answer ≡ ClosedWith count
+  pub says : l.answer ≡ closed_with count
   pub not : count ≡ undecided n l.map → ⊥
 
 -- open, or pin, goes on
 abbrev pub OpenGoes : List ℕ → List ℕ → Outline → Type 0
-OpenGoes s m o = (t : Task) × (open_gate s m ≡ Go o t)
+OpenGoes s m o = room_gate s m ≡ Ok o
 
 abbrev pub PinGoes : List ℕ → List ℕ → ℕ → ℕ → Outline → Type 0
-PinGoes s m a d o = (t : Task) × (pin_gate s m a d ≡ Go o t)
+PinGoes s m a d o = pin_gate s m a d ≡ Ok o
 
 -- the wrong versions, by the call that is wrong: a version may do what it likes in its other calls, and on what are no bytes
 pub data Wrong (v : Version) : Call → Type 0 where
-  refuses_all : ((s : List ℕ) → IsBytes s → (why : Refusal) × (v.check s ≡ RefusedSheet why)) → Wrong v check_call
+  refuses_all : ((s : List ℕ) → IsBytes s → (why : Refusal) × (v.check s ≡ Err why)) → Wrong v check_call
   -- no model, on any sheet
-  always_none : ((s m : List ℕ) → IsBytes s → IsBytes m → (v.solve s m).answer ≡ ModelFound → ⊥) → Wrong v solve_call
+  always_none : ((s m : List ℕ) → IsBytes s → IsBytes m → (v.solve s m).answer ≡ Ok ModelFound → ⊥) → Wrong v solve_call
   -- whatever is decided stands in a compute list
   open_forces_nothing :
       ((s m : List ℕ) (o : Outline) → IsBytes s → IsBytes m → OpenGoes s m o → (a : ℕ) (b : Bool)
@@ -103,26 +96,26 @@ abbrev pub put_all : List ℕ → List Literal → List ℕ
 put_all m [] = m
 put_all m (p ∷ ps) = put_at (put_all m ps) p.atom p.sign
 
-abbrev pub listed : List ℕ → Gate → List Literal
-listed s (Stop why) = []
-listed s (Go o t) = computed (sheet_meant s o)
+abbrev pub listed : List ℕ → Result Outline Refusal → List Literal
+listed s (Err why) = []
+listed s (Ok o) = computed (sheet_meant s o)
 
 -- open and pin write the pins and force nothing, check refuses and solve finds none
 abbrev pub lazy : Version
 lazy =
     record {
-      check = λ s. RefusedSheet (refusal 1 0);
-      open' = λ s m. record { answer = ClosedWith 9; map = put_all (filled 0 m) (listed s (open_gate s m)) };
-      pin = λ s m a d. record { answer = ClosedWith 9; map = put_at m a (eqb d 1) };
-      solve = λ s m. record { answer = NoneFound; map = m };
+      check = λ s. Err (refusal EndsEarly 0);
+      open' = λ s m. record { answer = closed_with 9; map = put_all (filled 0 m) (listed s (room_gate s m)) };
+      pin = λ s m a d. record { answer = closed_with 9; map = put_at m a (eqb d 1) };
+      solve = λ s m. record { answer = Ok NoneFound; map = m };
     }
 
 -- open puts every atom in, and pin then does nothing
 abbrev pub eager : Version
 eager =
     record {
-      check = λ s. Accepted 0 0;
-      open' = λ s m. record { answer = ClosedWith 0; map = filled 1 m };
-      pin = λ s m a d. record { answer = ClosedWith 0; map = m };
-      solve = λ s m. record { answer = ModelFound; map = m };
+      check = λ s. Ok (record { atoms = 0; rules = 0 });
+      open' = λ s m. record { answer = closed_with 0; map = filled 1 m };
+      pin = λ s m a d. record { answer = closed_with 0; map = m };
+      solve = λ s m. record { answer = Ok ModelFound; map = m };
     }

@@ -2,7 +2,7 @@
 -- atoms counted only if in U, meets its need. Atoms outside U are out."
 -- U is gathered in bytes of its own, 1 for an atom of U and 0 for any other: a map, of which every set that holds what U must hold
 -- is a good map above.
-use Rattle.std.specs.Prelude.{ℕ, ◌≤◌, ◌≡◌, Bool, true, false, T}
+use Rattle.std.specs.Prelude.{ℕ, ◌≤◌, ◌≡◌, Bool, true, false, Ok, T}
 use mathlib.Core.List.{List, Memᴰ}
 use Rattle.rules.specs.Sum.{has}
 use Rattle.rules.specs.Rule.{Rule, Within}
@@ -11,20 +11,13 @@ use Rattle.rules.specs.Map.{Map, side, is, isnt}
 use Rattle.rules.specs.Forcing.{Closed, Grounds, Founded}
 use Rattle.rules.specs.Inner.Bytes.{MapBytes}
 use Rattle.table.specs.Inner.Words.{pair_atom}
-use Rattle.table.specs.Inner.Rows.{heads_at, row_rule, table_rules, Row}
-use Rattle.weigh.specs.Inner.Step.{Concludes, Kept, Step, Till, Puts}
-use Rattle.weigh.specs.declared.Outcome.{Outcome}
-use Rattle.weigh.specs.declared.Outcome.TheVariants.{Same}
+use Rattle.table.specs.Inner.Rows.{heads_at, row_rule, table_rules}
+use Rattle.weigh.specs.Inner.Step.{Concludes, Kept, Outcome, Step, Till, Puts}
 
 -- an atom is put on a side in one map, unless it has a given side in another
 pub record PutsUnless (n : ℕ) (m : List ℕ) (a given v : ℕ) (w w' : List ℕ) (r : Outcome) : Type 0 where
-  pub there : side n m a ≡ given → (w' ≡ w) × (r ≡ Same)
+  pub there : side n m a ≡ given → (w' ≡ w) × (r ≡ Ok false)
   pub elsewhere : (side n m a ≡ given → ⊥) → Puts n w a v w' r
-
-pub record UnlessAsks (n : ℕ) (m : List ℕ) (a : ℕ) (w : List ℕ) : Type 0 where
-  pub within : Within n a
-  pub room : MapBytes n m
-  pub space : MapBytes n w
 
 abbrev pub Unless : Map → ℕ → ℕ → ℕ → Map → Type 0
 Unless M a given v W = (M a ≡ given → ⊥) → W a ≡ v
@@ -56,11 +49,6 @@ MissesUnless M U a false = Unless M a 2 1 U
 
 pub record Misses (M U : Map) (a : ℕ) (b : Bool) : Type 0 where
   pub tells : MissesUnless M U a b
-
-pub record GroundAsks (c : List ℕ) (n i : ℕ) (m u : List ℕ) : Type 0 where
-  pub row : Row c n i
-  pub proper : MapBytes n m
-  pub space : MapBytes n u
 
 -- the heads of rule i before pair j are put in U
 pub record GroundsHeads (c : List ℕ) (n i : ℕ) (m u : List ℕ) (j : ℕ) (u' : List ℕ) (r : Outcome) : Type 0 where

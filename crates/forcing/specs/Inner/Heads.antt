@@ -9,9 +9,8 @@ use Rattle.rules.specs.Map.{Map, side, sure}
 use Rattle.rules.specs.Forcing.{Closed}
 use Rattle.rules.specs.Inner.Bytes.{MapBytes}
 use Rattle.table.specs.Inner.Words.{pair_atom}
-use Rattle.table.specs.Inner.Rows.{heads_at, kind_at, row_rule, table_rules, Row}
-use Rattle.weigh.specs.Inner.Step.{Kept, Step, Till}
-use Rattle.weigh.specs.declared.Outcome.{Outcome}
+use Rattle.table.specs.Inner.Rows.{heads_at, kind_at, row_rule, table_rules}
+use Rattle.weigh.specs.Inner.Step.{Kept, Outcome, Step, Till}
 
 -- the two forcing rules have nothing to add for this rule
 pub record Settled (r : Rule) (M : Map) : Type 0 where
@@ -26,7 +25,6 @@ pub record Settles (c : List ℕ) (n i : ℕ) (m m' : List ℕ) (r : Outcome) : 
 
 -- rule i is no choice rule, and x is the side of its one head
 pub record HeadAsks (c : List ℕ) (n i head x : ℕ) (m : List ℕ) : Type 0 where
-  pub row : Row c n i
   pub proper : MapBytes n m
   pub gives : T (not (chooses (kind_at c i)))
   pub its : head ≡ pair_atom c (heads_at c i)

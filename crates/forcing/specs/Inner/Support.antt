@@ -1,16 +1,14 @@
 -- "2. An atom is in and exactly one rule with that head has reach at or above its need: each undecided literal of that body whose
 -- weight taken from reach leaves less than the need is made true." A table holds each rule once, so its rows are counted, as far as
 -- two: for all atoms that are in at once, by atom.
-use Rattle.std.specs.Prelude.{ℕ, zero, suc, ◌+◌, ◌≤◌, ◌<◌, ◌≡◌, Bool, T, length}
+use Rattle.std.specs.Prelude.{ℕ, zero, suc, ◌+◌, ◌≤◌, ◌<◌, ◌≡◌, Bool, T}
 use mathlib.Core.List.{List, Memᴰ}
 use Rattle.rules.specs.Sum.{counted, tally, has}
 use Rattle.rules.specs.Rule.{Rule, Weighted, Within, body}
 use Rattle.rules.specs.Map.{Map, side, is, reach, ◌⊑◌}
 use Rattle.rules.specs.Forcing.{Closed, supports}
-use Rattle.rules.specs.Inner.Bytes.{MapBytes}
-use Rattle.table.specs.Inner.Rows.{row_rule, table_rules, Row}
-use Rattle.weigh.specs.Inner.Step.{Kept, Step, Till}
-use Rattle.weigh.specs.declared.Outcome.{Outcome}
+use Rattle.table.specs.Inner.Rows.{row_rule, table_rules}
+use Rattle.weigh.specs.Inner.Step.{Kept, Outcome, Step, Till}
 
 -- how many rules with this head have reach at or above their need
 abbrev pub supporters : ℕ → Map → List Rule → ℕ
@@ -48,11 +46,6 @@ abbrev pub Backed : List Rule → Rule → Map → Type 0
 Backed P r M =
     (a : ℕ) → M a ≡ 1 → supporters a M P ≡ 1 → T (supports a M r) → (s : Bool) (l : Weighted) → Memᴰ l (body r s)
     → M l.atom ≡ 0 → reach r M < r.need + l.weight → ⊥
-
-pub record BackAsks (c : List ℕ) (n i : ℕ) (counts m : List ℕ) : Type 0 where
-  pub row : Row c n i
-  pub room : n ≤ length counts
-  pub proper : MapBytes n m
 
 -- the counts may be those of an older map: nothing is lost where they are those of the present one
 pub record Backs (c : List ℕ) (n i : ℕ) (counts m m' : List ℕ) (r : Outcome) : Type 0 where

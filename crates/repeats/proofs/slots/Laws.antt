@@ -1,12 +1,14 @@
 -- Links lead down, so a row that is met from a number is met from each number on the way until it is passed, and what is written at a
 -- higher index changes nothing. A row is entered in front of those that its slot had, so all of them are met as before.
+use Rattle.std.specs.Prelude.{Some, None}
 use Rattle.std.proofs.Common.{◌≡◌, ℕ, ◌+◌, ◌-◌, ◌%◌, ◌<◌, ◌≤◌, not, T, eqb, ◌⊎◌, List, length, get_or, set, sym, refl, ap, ◌∙◌, subst, inl, inr, ⊎_elim, arith, length-set, get_or-set_other, get_or-set_same, below_more}
 use Rattle.rules.specs.Limits.{rules_most}
 use Rattle.rules.specs.Rule.{Rule}
 use Rattle.rules.proofs.Tests.{T_eq, T_ne, decided}
 use Rattle.table.specs.Inner.Rows.{row_rule}
 use Rattle.repeats.specs.Inner.Marks.{slot_count, rule_mark}
-use Rattle.repeats.specs.Inner.Slots.{Reaches, here, onward, Entered, Indexed, FindAsks, Finds, EnterAsks, Enters, KeepAsks, KeptOnce}
+use Rattle.repeats.specs.declared.slots.Kept.{Kept}
+use Rattle.repeats.specs.Inner.Slots.{Reaches, here, onward, Entered, Indexed, FindAsks, Finds, EnterAsks, entered_in, KeepAsks, KeptOnce}
 
 none_from_zero : {links : List ℕ} {p q : ℕ} → q ≡ 0 → Reaches links p q → ⊥
 none_from_zero z (here q e) = omega arith
@@ -28,37 +30,29 @@ still_met {links} {k} {p} v down h (onward q j e r) =
     (still_met v down (omega (arith, down j (omega arith))) r))
 
 -- a search for row k's rule has come to a number: what was to be met from where it began is met from there
-pub record Finding (c links : List ℕ) (k from number : ℕ) : Type 0 where
+pub record Finding (c : List ℕ) (kept : Kept) (k from number : ℕ) : Type 0 where
   pub low : number ≤ k
-  pub left : (p : ℕ) → p < k → row_rule c p ≡ row_rule c k → Reaches links p from → Reaches links p number
+  pub left : (p : ℕ) → p < k → row_rule c p ≡ row_rule c k → Reaches kept.links p from → Reaches kept.links p number
 
-module _ (c links : List ℕ) (k from : ℕ) where
-  pub find_begins : FindAsks c links k from → Finding c links k from from
+module _ (c : List ℕ) (kept : Kept) (k from : ℕ) where
+  pub find_begins : FindAsks c kept k from → Finding c kept k from from
   find_begins asks = record { low = asks.low; left = λ p h same r. r }
 
-  pub find_done : (number : ℕ) → number ≡ 0 → Finding c links k from number → Finds c links k from k
-  find_done number z finding =
+  pub find_done : (number : ℕ) → number ≡ 0 → Finding c kept k from number → Finds c kept k from None
+  find_done number z finding p h r same = none_from_zero z (finding.left p h same r)
+
+  pub find_goes_on :
+      (number : ℕ) → (number ≡ 0 → ⊥) → Finding c kept k from number → FindAsks c kept k from
+      → (row_rule c (number - 1) ≡ row_rule c k → ⊥) → Finding c kept k from (get_or kept.links (number - 1) 0)
+  find_goes_on number some finding asks apart =
       record {
-        low = omega arith;
-        same = λ h. absurd (omega arith);
-        none = λ e p h r same. none_from_zero z (finding.left p h same r);
+        low = omega (arith, asks.down (number - 1) (omega (arith, finding.low)));
+        left =
+            λ p h same r.
+            ⊎_elim (λ (e : p ≡ number - 1). absurd (apart (subst (λ (x : ℕ). row_rule c x ≡ row_rule c k) e same)))
+            (λ (n : Reaches kept.links p (get_or kept.links (number - 1) 0)). n)
+            (next_met (number - 1) (omega arith) (finding.left p h same r));
       }
-
-  module _ (number : ℕ) (some : number ≡ 0 → ⊥) (finding : Finding c links k from number) where
-    pub row_found : row_rule c (number - 1) ≡ row_rule c k → Finds c links k from (number - 1)
-    row_found same = record { low = omega arith; same = λ h. same; none = λ e. absurd (omega arith) }
-
-    pub find_goes_on :
-        FindAsks c links k from → (row_rule c (number - 1) ≡ row_rule c k → ⊥) → Finding c links k from (get_or links (number - 1) 0)
-    find_goes_on asks apart =
-        record {
-          low = omega (arith, asks.down (number - 1) (omega arith));
-          left =
-              λ p h same r.
-              ⊎_elim (λ (e : p ≡ number - 1). absurd (apart (subst (λ (x : ℕ). row_rule c x ≡ row_rule c k) e same)))
-              (λ (n : Reaches links p (get_or links (number - 1) 0)). n)
-              (next_met (number - 1) (omega arith) (finding.left p h same r));
-        }
 
 -- what stands at a place after a write, there or at another
 after_set :
@@ -73,97 +67,93 @@ after_set P l i v x h new old =
 abbrev pub slot_of : Rule → ℕ
 slot_of r = rule_mark r % slot_count
 
-module _ (c slots links : List ℕ) (k slot : ℕ) (index : Indexed c slots links k) (low : slot < slot_count) (few : k < rules_most) where
+module _ (c : List ℕ) (kept : Kept) (k slot : ℕ) (index : Indexed c kept k) (low : slot < slot_count) (few : k < rules_most) where
+  -- the slots and the links after row k is entered
+  abbrev slots' : List ℕ
+  slots' = (entered_in kept slot k).slots
+
+  abbrev links' : List ℕ
+  links' = (entered_in kept slot k).links
+
   -- after a row is entered, each row is met from its slot as before
-  slot_kept :
-      (p x : ℕ) → Reaches links p (get_or slots x 0) → Reaches (set links k (get_or slots slot 0)) p (get_or (set slots slot (k + 1)) x 0)
+  slot_kept : (p x : ℕ) → Reaches kept.links p (get_or kept.slots x 0) → Reaches links' p (get_or slots' x 0)
   slot_kept p x r =
-      after_set (Reaches (set links k (get_or slots slot 0)) p) slots slot (k + 1) x (omega (arith, index.slots_long))
+      after_set (Reaches links' p) kept.slots slot (k + 1) x (omega (arith, index.slots_long))
       (λ e.
       onward (k + 1) k refl
-      (subst (Reaches (set links k (get_or slots slot 0)) p)
-      (ap (λ (y : ℕ). get_or slots y 0) e ∙ sym (get_or-set_same links k (get_or slots slot 0) 0 (omega (arith, index.links_long)))) met))
+      (subst (Reaches links' p)
+      (ap (λ (y : ℕ). get_or kept.slots y 0) e ∙ sym (get_or-set_same kept.links k (get_or kept.slots slot 0) 0 (omega (arith, index.links_long)))) met))
       (λ e. met)
     where
-      met : Reaches (set links k (get_or slots slot 0)) p (get_or slots x 0)
-      met = still_met (get_or slots slot 0) index.down (index.top x) r
+      met : Reaches links' p (get_or kept.slots x 0)
+      met = still_met (get_or kept.slots slot 0) index.down (index.top x) r
 
   -- the row is met from its own
-  slot_own : (x : ℕ) → slot ≡ x → Reaches (set links k (get_or slots slot 0)) k (get_or (set slots slot (k + 1)) x 0)
+  slot_own : (x : ℕ) → slot ≡ x → Reaches links' k (get_or slots' x 0)
   slot_own x e =
-      here (get_or (set slots slot (k + 1)) x 0)
-      (ap (λ (y : ℕ). get_or (set slots slot (k + 1)) y 0) (sym e)
-      ∙ get_or-set_same slots slot (k + 1) 0 (omega (arith, index.slots_long)))
+      here (get_or slots' x 0)
+      (ap (λ (y : ℕ). get_or slots' y 0) (sym e)
+      ∙ get_or-set_same kept.slots slot (k + 1) 0 (omega (arith, index.slots_long)))
 
-  pub index_more :
-      slot ≡ slot_of (row_rule c k) → (slots' links' : List ℕ) → Enters slots links slot k slots' links' → Indexed c slots' links' (k + 1)
-  index_more belongs slots' links' enters = rw (enters.slots_are, enters.links_are) more
-    where
-      more : Indexed c (set slots slot (k + 1)) (set links k (get_or slots slot 0)) (k + 1)
-      more =
-          record {
-            slots_long = length-set slots slot (k + 1) ∙ index.slots_long;
-            links_long = length-set links k (get_or slots slot 0) ∙ index.links_long;
-            top =
-                λ x.
-                after_set (λ (y : ℕ). y ≤ k + 1) slots slot (k + 1) x (omega (arith, index.slots_long)) (λ e. omega arith)
-                (λ e. omega (arith, index.top x));
-            down =
-                λ p h.
-                after_set (λ (y : ℕ). y ≤ p) links k (get_or slots slot 0) p (omega (arith, index.links_long))
-                (λ e. omega (arith, index.top slot, e)) (λ e. index.down p (omega arith));
-            entered =
-                below_more (Entered c (set slots slot (k + 1)) (set links k (get_or slots slot 0))) k
-                (λ p h. slot_kept p (slot_of (row_rule c p)) (index.entered p h)) (slot_own (slot_of (row_rule c k)) belongs);
-          }
+  pub index_more : slot ≡ slot_of (row_rule c k) → Indexed c (entered_in kept slot k) (k + 1)
+  index_more belongs =
+      record {
+        slots_long = length-set kept.slots slot (k + 1) ∙ index.slots_long;
+        links_long = length-set kept.links k (get_or kept.slots slot 0) ∙ index.links_long;
+        top =
+            λ x.
+            after_set (λ (y : ℕ). y ≤ k + 1) kept.slots slot (k + 1) x (omega (arith, index.slots_long)) (λ e. omega arith)
+            (λ e. omega (arith, index.top x));
+        down =
+            λ p h.
+            after_set (λ (y : ℕ). y ≤ p) kept.links k (get_or kept.slots slot 0) p (omega (arith, index.links_long))
+            (λ e. omega (arith, index.top slot, e)) (λ e. index.down p (omega arith));
+        entered =
+            below_more (Entered c (entered_in kept slot k)) k
+            (λ p h. slot_kept p (slot_of (row_rule c p)) (index.entered p h)) (slot_own (slot_of (row_rule c k)) belongs);
+      }
 
-module _ (c slots links : List ℕ) (k mark : ℕ) (asks : KeepAsks c slots links k mark) where
+module _ (c : List ℕ) (kept : Kept) (k mark : ℕ) (asks : KeepAsks c kept k mark) where
   -- the slot is that of the rule's mark, and a row of row k's rule is met from there
   its_slot : mark % slot_count ≡ slot_of (row_rule c k)
   its_slot = ap (λ (m : ℕ). m % slot_count) asks.mark_is
 
-  met_there : (p : ℕ) → p < k → row_rule c p ≡ row_rule c k → Reaches links p (get_or slots (mark % slot_count) 0)
+  met_there : (p : ℕ) → p < k → row_rule c p ≡ row_rule c k → Reaches kept.links p (get_or kept.slots (mark % slot_count) 0)
   met_there p h same =
-      subst (λ (x : ℕ). Reaches links p (get_or slots x 0)) (ap slot_of same ∙ sym its_slot) (asks.index.entered p h)
+      subst (λ (x : ℕ). Reaches kept.links p (get_or kept.slots x 0)) (ap slot_of same ∙ sym its_slot) (asks.index.entered p h)
 
-  slot_low : mark % slot_count < slot_count
+  pub slot_low : mark % slot_count < slot_count
   unfolding slot_count
   slot_low = omega arith
 
-  pub slot_there : mark % slot_count < length slots
-  slot_there = omega (arith, asks.index.slots_long, slot_low)
-
   -- what finding and entering ask
-  pub find_asks : FindAsks c links k (get_or slots (mark % slot_count) 0)
+  pub find_asks : FindAsks c kept k (get_or kept.slots (mark % slot_count) 0)
   find_asks =
       record {
         filled = asks.filled;
         low = asks.index.top (mark % slot_count);
-        few = omega (arith, asks.few, asks.index.links_long);
+        few = asks.few;
         down = asks.index.down;
       }
 
-  pub enter_asks : EnterAsks slots links (mark % slot_count) k
-  enter_asks = record { there = slot_there; few = omega (arith, asks.few, asks.index.links_long); most = asks.few }
+  pub enter_asks : EnterAsks (mark % slot_count) k
+  enter_asks = record { there = slot_low; few = asks.few }
 
-  module _ (r : ℕ) (finds : Finds c links k (get_or slots (mark % slot_count) 0) r) where
-    pub was_found : r < k → KeptOnce c k slots links slots links r
-    was_found h =
-        record { low = finds.low; repeat = λ l. (finds.same l, refl, refl); new = λ e. absurd (omega arith) }
+  pub was_found : (r : ℕ) → Finds c kept k (get_or kept.slots (mark % slot_count) 0) (Some r) → KeptOnce c k kept kept r
+  was_found r finds =
+      record { low = omega (arith, finds.0); repeat = λ l. (finds.1, refl); new = λ e. absurd (omega (arith, finds.0)) }
 
-    -- no row with the rule is met, and row k is entered
-    pub was_new :
-        k ≤ r → (slots' links' : List ℕ) → Enters slots links (mark % slot_count) k slots' links'
-        → KeptOnce c k slots links slots' links' k
-    was_new high slots' links' enters =
-        record {
-          low = omega arith;
-          repeat = λ h. absurd (omega arith);
-          new =
-              λ e.
-              record {
-                apart = λ p h same. finds.none (omega (arith, finds.low, high)) p h (met_there p h same) same;
-                index =
-                    index_more c slots links k (mark % slot_count) asks.index slot_low asks.few its_slot slots' links' enters;
-              };
-        }
+  -- no row with the rule is met, and row k is entered
+  pub was_new :
+      Finds c kept k (get_or kept.slots (mark % slot_count) 0) None → KeptOnce c k kept (entered_in kept (mark % slot_count) k) k
+  was_new finds =
+      record {
+        low = omega arith;
+        repeat = λ h. absurd (omega arith);
+        new =
+            λ e.
+            record {
+              apart = λ p h same. finds p h (met_there p h same) same;
+              index = index_more c kept k (mark % slot_count) asks.index slot_low asks.few its_slot;
+            };
+      }

@@ -3,7 +3,8 @@
 -- rules that differ in little seldom share a slot. What is multiplied is cut down first, and a sum is what a word has of it.
 use Rattle.std.specs.Prelude.{ℕ, ◌+◌, ◌*◌, ◌%◌, ◌^◌, Bool, List, [], ◌∷◌, ◌==◌}
 use Rattle.rules.specs.Sum.{pick}
-use Rattle.rules.specs.Rule.{Rule, Weighted, weight, kind_number, atoms_of, weights_of}
+use Rattle.rules.specs.Rule.{Rule, Weighted, kind_number, atoms_of, weights_of}
+use Rattle.rules.specs.declared.kind.Kind.TheVariants.{Weight as weight}
 
 -- how many slots rules are entered in
 unfoldable pub slot_count : ℕ

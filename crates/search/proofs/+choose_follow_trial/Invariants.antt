@@ -5,10 +5,10 @@ use Rattle.rules.specs.Map.{undecided}
 use Rattle.search.proofs.+choose_follow_trial.Given as goal
 
 abbrev pub decreases-choose : goal.decreases-choose
-decreases-choose l = 3 * undecided l.n l.map + 2
+decreases-choose l = 3 * undecided l.t.now.atoms l.map + 2
 
 abbrev pub decreases-follow : goal.decreases-follow
-decreases-follow l = 3 * undecided l.n l.map
+decreases-follow l = 3 * undecided l.t.now.atoms l.map
 
 abbrev pub decreases-trial : goal.decreases-trial
-decreases-trial l = 3 * undecided l.n l.map + 1
+decreases-trial l = 3 * undecided l.t.now.atoms l.map + 1

@@ -1,20 +1,15 @@
 -- "A rule is one of four kinds, each with its own head part." "Each rule has a need and each body literal a weight."
 -- Row i of a table stands for rule i + 1: kind, need, and the places of its heads, its positive and its negated literals, which end
 -- where the next row's heads begin.
-use Rattle.std.specs.Prelude.{ℕ, zero, suc, ◌+◌, ◌*◌, ◌≤◌, ◌<◌, ◌≡◌, Bool, true, false, not, cond, List, [], ◌∷◌, T, eqb}
+use Rattle.std.specs.Prelude.{ℕ, zero, suc, ◌+◌, ◌*◌, ◌≤◌, ◌<◌, ◌≡◌, Bool, true, false, not, List, [], ◌∷◌, T}
 use Rattle.rules.specs.Limits.{atoms_most, rules_most, number_most}
-use Rattle.rules.specs.Rule.{Rule, Sheet, Kind, basic, constraint, choice, weight, kind_number, chooses, atoms_of}
+use Rattle.rules.specs.Rule.{Rule, Sheet, kind_of, chooses, atoms_of}
+use Rattle.rules.specs.declared.kind.Kind.{Kind}
 use Rattle.table.specs.Inner.Words.{row_width, word_at, pair_atom, seg, seg_atoms, Seg}
 
 -- word k of row i
 abbrev pub cell : List ℕ → ℕ → ℕ → ℕ
 cell c i k = word_at c (row_width * i + k)
-
--- the kind of a number
-unfoldable pub kind_of : ℕ → Kind
-kind_of w =
-    cond (eqb w (kind_number choice)) choice
-    (cond (eqb w (kind_number basic)) basic (cond (eqb w (kind_number constraint)) constraint weight))
 
 unfoldable pub kind_at : List ℕ → ℕ → Kind
 kind_at c i = kind_of (word_at c (row_width * i))

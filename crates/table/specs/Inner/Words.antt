@@ -1,7 +1,8 @@
 -- "A body is a list of positive atoms and then a list of negated atoms." In a table each list stands as a run of pairs of words,
 -- the weight of a literal and its atom; a list of heads stands so too. A table is one list of words, and a word past its end is 0.
-use Rattle.std.specs.Prelude.{ℕ, zero, suc, ◌+◌, ◌*◌, ◌-◌, ◌≤◌, ◌<◌, Bool, true, false, List, [], ◌∷◌, get_or}
+use Rattle.std.specs.Prelude.{ℕ, zero, suc, ◌+◌, ◌*◌, ◌-◌, ◌≤◌, ◌<◌, Bool, true, false, List, [], ◌∷◌, get_or, ltb, Option, Some, None}
 use Rattle.rules.specs.Limits.{atoms_most, weight_most}
+use Rattle.rules.specs.Sum.{pick}
 use Rattle.rules.specs.Rule.{Weighted, Within, atoms_of, weighted, weights_of}
 
 -- how many words a row and a pair have
@@ -36,6 +37,10 @@ seg c from to = pairs_from c (to - from) from
 -- the same as atoms alone
 abbrev pub seg_atoms : List ℕ → ℕ → ℕ → List ℕ
 seg_atoms c from to = atoms_of (seg c from to)
+
+-- the k-th place from one to before another
+unfoldable pub place_of : ℕ → ℕ → ℕ → Option ℕ
+place_of from to k = pick (ltb k (to - from)) (Some (from + k)) None
 
 -- the weights, or the atoms, of such a run
 unfoldable pub seg_column : Bool → List ℕ → ℕ → ℕ → List ℕ

@@ -1,22 +1,24 @@
 -- Putting literals on a map, one after another: the maps above the result are those above the start that hold the literals, since each
 -- that is put is one that every such map has there; and an atom on the other side leaves none.
 use Prim.Native.Nat.{ℕ, ◌+◌, ◌≤◌, ◌<◌}
-use mathlib.Core.Path.{◌≡◌, sym, ◌∙◌, subst}
+use mathlib.Core.Path.{◌≡◌, refl, sym, ◌∙◌, subst}
 use mathlib.Core.Logic.{◌⊎◌, inl, inr}
-use mathlib.Core.Bool.{Bool, true, false, not, true≢false, false≢true}
+use mathlib.Core.Bool.{Bool, true, false, not}
 use mathlib.Core.List.{List, [], ◌∷◌, ◌++◌, map}
+use Rattle.std.specs.Prelude.{Result, Ok, Err}
 use native.Mathlib.Omega.{arith}
 use Rattle.rules.specs.Rule.{Weighted, Within, atoms_of}
 use Rattle.rules.specs.Map.{Map, Literal, Over, side, signed, want, ◌⊑◌}
+use Rattle.rules.specs.Forcing.{computed}
 use Rattle.rules.specs.Inner.Bytes.{MapBytes}
 use Rattle.rules.proofs.Maps.{sides, want_apart}
 use Rattle.rules.proofs.Least.{holding_nil, holding_append, holding_left, holding_right, over_one, over_at}
 use Rattle.rules.proofs.Bytes.{over_written, written_over}
 use Rattle.table.specs.Inner.Words.{pair_atom, seg_atoms}
+use Rattle.table.specs.Inner.Rows.{table_sheet, positives_at, negatives_at, end_at}
 use Rattle.table.proofs.Words.{seg_done, seg_next}
-use Rattle.weigh.specs.Inner.Step.{Puts, Decided, is_clash, Put}
-use Rattle.weigh.specs.declared.Outcome.{Outcome}
-use Rattle.weigh.specs.declared.Outcome.TheVariants.{Clash, Same, Grew}
+use Rattle.weigh.specs.Inner.Step.{Outcome, Puts, Decided, Put}
+use Rattle.weigh.specs.declared.Clash.{Clash}
 use Rattle.weigh.proofs.Bytes.{proper_map}
 use Rattle.weigh.proofs.Steps.{kept_refl, kept_trans, kept_put}
 use Rattle.task.specs.Inner.Hold.{Took, Takes}
@@ -25,33 +27,49 @@ want_side : (s : Bool) → Decided (want s)
 want_side true = record { low = omega arith; high = omega arith }
 want_side false = record { low = omega arith; high = omega arith }
 
+-- what a literal that was put answers: a clash, or nothing
+abbrev pub held : Outcome → Result Unit Clash
+held (Ok grew) = Ok tt
+held (Err clash) = Err clash
+
 -- one atom
 module _ (n : ℕ) (m : List ℕ) (a : ℕ) (s : Bool) (p : MapBytes n m) (w : Within n a) where
-  pub put_takes : (m' : List ℕ) (r : Outcome) → Puts n m a (want s) m' r → Takes n m (signed s a ∷ []) m' (not (is_clash r))
+  pub put_takes : (m' : List ℕ) (r : Outcome) → Puts n m a (want s) m' r → Takes n m (signed s a ∷ []) m' (held r)
   put_takes m' r q =
       record { kept = kept_put n m a (want s) p w (want_side s) m' r q; took = by r q.put }
     where
-      by : (x : Outcome) → Put n m a (want s) m' x → Took n m (signed s a ∷ []) m' (not (is_clash x))
-      by Clash (e, other) = λ X u. step X u (sides (side n m a) ((proper_map n m p).sides a) s)
+      by : (x : Outcome) → Put n m a (want s) m' x → Took n m (signed s a ∷ []) m' (held x)
+      by (Err clash) (e, other) = λ X u. step X u (sides (side n m a) ((proper_map n m p).sides a) s)
         where
           step :
               (X : Map) → Over (side n m) (signed s a ∷ []) X → (side n m a ≡ 0) ⊎ ((side n m a ≡ want s) ⊎ (side n m a ≡ want (not s))) → ⊥
           step X u (inl z) = other.1 z
           step X u (inr (inl z)) = other.0 z
           step X u (inr (inr z)) = want_apart s (sym (over_at s a u) ∙ u.above.keeps (not s) a z)
-      by Same (e, z) = (
+      by (Ok false) (e, z) = (
         λ X f.
             let g : side n m ⊑ X = subst (λ (l : List ℕ). side n l ⊑ X) e f in over_one s a g (g.keeps s a z),
         λ X u.
             subst (λ (l : List ℕ). side n l ⊑ X) (sym e) u.above,
       )
-      by Grew (e, z) = (
+      by (Ok true) (e, z) = (
         λ X f. over_written n m a w p.room s z X (subst (λ (l : List ℕ). side n l ⊑ X) e f),
         λ X u. subst (λ (l : List ℕ). side n l ⊑ X) (sym e) (written_over n m a w p.room s z X u),
       )
 
+-- the same of an atom and a side as they were handed over, and of the answer as it is
+pub put_held :
+    {n a v : ℕ} {s : Bool} {m m' : List ℕ} {r : Outcome} {x : Result Unit Clash} → MapBytes n m → Within n a → v ≡ want s
+    → Puts n m a v m' r → x ≡ held r → Takes n m (signed s a ∷ []) m' x
+put_held {n} {a} {v} {s} {m} {m'} {r} p w e q is =
+    subst
+    (Takes n m (signed s a ∷ []) m')
+    (sym is)
+    (put_takes n m a s p w m' r (subst (λ (y : ℕ). Puts n m a y m' r) e q))
+
 pub takes_as :
-    {n : ℕ} {m m₁ : List ℕ} {s r : Bool} {a b : ℕ} → a ≡ b → Takes n m (signed s a ∷ []) m₁ r → Takes n m (signed s b ∷ []) m₁ r
+    {n : ℕ} {m m₁ : List ℕ} {s : Bool} {r : Result Unit Clash} {a b : ℕ} → a ≡ b → Takes n m (signed s a ∷ []) m₁ r
+    → Takes n m (signed s b ∷ []) m₁ r
 takes_as {n} {m} {m₁} {s} {r} e t = subst (λ (x : ℕ). Takes n m (signed s x ∷ []) m₁ r) e t
 
 -- some literals and then others
@@ -59,17 +77,15 @@ first_of : {M : Map} (ps qs : List Literal) (X : Map) → Over M (ps ++ qs) X �
 first_of ps qs X u = record { above = u.above; holds = holding_left X ps qs u.holds }
 
 module _ {n : ℕ} {m m₁ : List ℕ} {ps : List Literal} (qs : List Literal) where
-  pub takes_both :
-      (b : Bool) → b ≡ true → Takes n m ps m₁ b → {m₂ : List ℕ} (r : Bool) → Takes n m₁ qs m₂ r → Takes n m (ps ++ qs) m₂ r
-  takes_both false e t r u = absurd (false≢true e)
-  takes_both true e t {m₂} r u =
+  both_of : {v : Unit} → Takes n m ps m₁ (Ok v) → {m₂ : List ℕ} (r : Result Unit Clash) → Takes n m₁ qs m₂ r → Takes n m (ps ++ qs) m₂ r
+  both_of t {m₂} r u =
       record { kept = kept_trans n m m₁ m₂ t.kept u.kept; took = by r u.took }
     where
       next : (X : Map) → Over (side n m) (ps ++ qs) X → Over (side n m₁) qs X
       next X q = record { above = t.took.1 X (first_of ps qs X q); holds = holding_right X ps qs q.holds }
 
-      by : (x : Bool) → Took n m₁ qs m₂ x → Took n m (ps ++ qs) m₂ x
-      by true (up, down) = (
+      by : (x : Result Unit Clash) → Took n m₁ qs m₂ x → Took n m (ps ++ qs) m₂ x
+      by (Ok w) (up, down) = (
         λ X f.
             let v = up X f in
             let w = t.took.0 X v.above in
@@ -77,13 +93,20 @@ module _ {n : ℕ} {m m₁ : List ℕ} {ps : List Literal} (qs : List Literal) w
         λ X q.
             down X (next X q),
       )
-      by false none = λ X q. none X (next X q)
+      by (Err clash) none = λ X q. none X (next X q)
 
-  pub takes_none : (b : Bool) → b ≡ false → Takes n m ps m₁ b → Takes n m (ps ++ qs) m₁ false
-  takes_none true e t = absurd (true≢false e)
-  takes_none false e t = record { kept = t.kept; took = λ X q. t.took X (first_of ps qs X q) }
+  pub takes_both :
+      {b : Result Unit Clash} (v : Unit) → b ≡ Ok v → Takes n m ps m₁ b → {m₂ : List ℕ} (r : Result Unit Clash) → Takes n m₁ qs m₂ r
+      → Takes n m (ps ++ qs) m₂ r
+  takes_both v e t r u = both_of (subst (Takes n m ps m₁) e t) r u
 
-takes_nil : {n : ℕ} {m : List ℕ} → MapBytes n m → Takes n m [] m true
+  pub takes_none : {b : Result Unit Clash} (clash : Clash) → b ≡ Err clash → Takes n m ps m₁ b → Takes n m (ps ++ qs) m₁ (Err clash)
+  takes_none clash e t = none_of (subst (Takes n m ps m₁) e t)
+    where
+      none_of : Takes n m ps m₁ (Err clash) → Takes n m (ps ++ qs) m₁ (Err clash)
+      none_of u = record { kept = u.kept; took = λ X q. u.took X (first_of ps qs X q) }
+
+takes_nil : {n : ℕ} {m : List ℕ} → MapBytes n m → Takes n m [] m (Ok tt)
 takes_nil {n} {m} p =
     record { kept = kept_refl n m p; took = (λ X f. record { above = f; holds = holding_nil X }, λ X q. q.above) }
 
@@ -92,7 +115,7 @@ pub record Left (c : List ℕ) (n from to : ℕ) (s : Bool) (m₀ m : List ℕ) 
   pub low : from ≤ j
   pub proper : MapBytes n m
   pub whole :
-      (m' : List ℕ) (r : Bool) → Takes n m (map (signed s) (seg_atoms c j to)) m' r
+      (m' : List ℕ) (r : Result Unit Clash) → Takes n m (map (signed s) (seg_atoms c j to)) m' r
       → Takes n m₀ (map (signed s) (seg_atoms c from to)) m' r
 
 module _ (c : List ℕ) (n from to : ℕ) (s : Bool) where
@@ -100,22 +123,22 @@ module _ (c : List ℕ) (n from to : ℕ) (s : Bool) where
   hold_begin m p = record { low = omega arith; proper = p; whole = λ m' r t. t }
 
   module _ (m₀ m : List ℕ) (j : ℕ) (l : Left c n from to s m₀ m j) where
-    pub left_end : to ≤ j → Takes n m₀ (map (signed s) (seg_atoms c from to)) m true
+    pub left_end : to ≤ j → Takes n m₀ (map (signed s) (seg_atoms c from to)) m (Ok tt)
     left_end h =
         l.whole
         m
-        true
+        (Ok tt)
         (subst
-        (λ (ls : List Weighted). Takes n m (map (signed s) (atoms_of ls)) m true)
+        (λ (ls : List Weighted). Takes n m (map (signed s) (atoms_of ls)) m (Ok tt))
         (sym (seg_done c j to h))
         (takes_nil l.proper))
 
     -- one pair more
-    module _ (h : j < to) (a : ℕ) (e : a ≡ pair_atom c j) (m₁ : List ℕ) (r : Bool) (t : Takes n m (signed s a ∷ []) m₁ r) where
+    module _ (h : j < to) (a : ℕ) (e : a ≡ pair_atom c j) (m₁ : List ℕ) (r : Result Unit Clash) (t : Takes n m (signed s a ∷ []) m₁ r) where
       rest : List Literal
       rest = map (signed s) (seg_atoms c (j + 1) to)
 
-      onward : (m' : List ℕ) (x : Bool) → Takes n m (signed s a ∷ rest) m' x → Takes n m₀ (map (signed s) (seg_atoms c from to)) m' x
+      onward : (m' : List ℕ) (x : Result Unit Clash) → Takes n m (signed s a ∷ rest) m' x → Takes n m₀ (map (signed s) (seg_atoms c from to)) m' x
       unfolding rest
       onward m' x u =
           l.whole
@@ -126,14 +149,46 @@ module _ (c : List ℕ) (n from to : ℕ) (s : Bool) where
           (sym (seg_next c j to h))
           (subst (λ (y : ℕ). Takes n m (signed s y ∷ rest) m' x) e u))
 
-      pub left_next : r ≡ true → Left c n from to s m₀ m₁ (j + 1)
+      pub left_next : (v : Unit) → r ≡ Ok v → Left c n from to s m₀ m₁ (j + 1)
       unfolding rest
-      left_next q =
+      left_next v q =
           record {
             low = omega (arith, l.low);
             proper = t.kept.proper;
-            whole = λ m' x u. onward m' x (takes_both rest r q t x u);
+            whole = λ m' x u. onward m' x (takes_both rest v q t x u);
           }
 
-      pub left_clash : r ≡ false → Takes n m₀ (map (signed s) (seg_atoms c from to)) m₁ false
-      left_clash q = onward m₁ false (takes_none rest r q t)
+      pub left_clash : (clash : Clash) → r ≡ Err clash → Takes n m₀ (map (signed s) (seg_atoms c from to)) m₁ (Err clash)
+      left_clash clash q = onward m₁ (Err clash) (takes_none rest clash q t)
+
+-- the two runs of a row are the compute lists, where the row is the last of a table and its places were read
+module _
+    {c rc : List ℕ}
+    {n rn count at a b d : ℕ}
+    (same : rc ≡ c)
+    (atoms : rn ≡ n)
+    (last : at ≡ count)
+    (begin : a ≡ positives_at rc at)
+    (middle : b ≡ negatives_at rc at)
+    (end : d ≡ end_at rc at)
+  where
+    lists_are : map (signed true) (seg_atoms rc a b) ++ map (signed false) (seg_atoms rc b d) ≡ computed (table_sheet c n count)
+    lists_are = simp (begin, middle, end, same, last)
+
+    pub lists_clash :
+        {m m₁ : List ℕ} (clash : Clash) → Takes rn m (map (signed true) (seg_atoms rc a b)) m₁ (Err clash)
+        → Takes n m (computed (table_sheet c n count)) m₁ (Err clash)
+    lists_clash {m} {m₁} clash t =
+        subst
+        (λ (x : ℕ). Takes x m (computed (table_sheet c n count)) m₁ (Err clash))
+        atoms
+        (subst (λ (ps : List Literal). Takes rn m ps m₁ (Err clash)) lists_are (takes_none (map (signed false) (seg_atoms rc b d)) clash refl t))
+
+    pub lists_held :
+        {m m₁ : List ℕ} {v : Unit} {m₂ : List ℕ} (r : Result Unit Clash) → Takes rn m (map (signed true) (seg_atoms rc a b)) m₁ (Ok v)
+        → Takes rn m₁ (map (signed false) (seg_atoms rc b d)) m₂ r → Takes n m (computed (table_sheet c n count)) m₂ r
+    lists_held {m} {m₁} {v} {m₂} r t u =
+        subst
+        (λ (x : ℕ). Takes x m (computed (table_sheet c n count)) m₂ r)
+        atoms
+        (subst (λ (ps : List Literal). Takes rn m ps m₂ r) lists_are (takes_both (map (signed false) (seg_atoms rc b d)) v refl t r u))

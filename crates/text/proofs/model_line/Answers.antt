@@ -1,16 +1,52 @@
--- `model_line` meets its contract: the buffer has room for the line, which is put at its start.
-use Prim.Native.Nat.{ℕ}
-use mathlib.Core.Path.{ap}
-use native.Mathlib.Omega.{arith}
-use Rattle.text.specs.Line.{model_line}
-use Rattle.text.proofs.Room.{held, model_fits}
-use Rattle.text.proofs.put.Laws.{retold}
+-- `model_line`: the line names the in-atoms among 1 to `i`.
+use Rattle.std.proofs.Common.{◌≡◌, ◌+◌, ◌++◌, ◌∙◌, ℕ, min, sym, ap, length, length-append, arith, rules}
+use Rattle.rules.specs.Limits.{atoms_most}
+use Rattle.text.specs.Line.{feed, model_word, model_line, spaced, spaced_all, in_atoms}
+use Rattle.text.proofs.Lines.{atom_in, atom_out}
+use Rattle.text.proofs.Room.{spaced_short, atoms_room}
+use Rattle.text.proofs.model_line.Goals.{then-is_in, else-is_in}
 use Rattle.text.proofs.model_line.Goals as goal
 
-pub put_model-len-requires : goal.put_model-len-requires
-put_model-len-requires c = model_fits _ c.atoms_of.result c.blank-bytes.ensures (omega (arith, c.atoms_of.ensures))
+pub loop-i-init : goal.loop-i-init
+unfolding in_atoms spaced_all
+loop-i-init c = search rules
+
+pub put_spaced-requires : goal.put_spaced-requires
+unfolding atoms_most
+put_spaced-requires c =
+    omega (
+      arith,
+      ap length c.loop-i.invariant,
+      length-append model_word (spaced_all (in_atoms c.loop-i.i c.args.map.now)),
+      spaced_short (c.loop-i.i + 1) (omega arith),
+      atoms_room c.args.map.now c.loop-i.i (omega arith),
+    )
+
+pub loop-i-preserved : goal.loop-i-preserved
+loop-i-preserved c =
+    elim c.if-is_in.branch [
+      | then-is_in w ↦
+          ap (λ l. l.bytes) w.line-is ∙ w.put_spaced.ensures
+          ∙ ap (λ t. t ++ spaced (c.loop-i.i + 1)) c.loop-i.invariant
+          ∙ ap (λ t. model_word ++ t) (sym (atom_in c.args.map.now c.loop-i.i (sym c.is_in.ensures ∙ w.if-is_in.true)))
+      | else-is_in w ↦
+          ap (λ l. l.bytes) w.line-is ∙ c.loop-i.invariant
+          ∙ ap (λ t. model_word ++ t) (sym (atom_out c.args.map.now c.loop-i.i (sym c.is_in.ensures ∙ w.if-is_in.false)))
+    ]
+
+pub ended-requires : goal.ended-requires
+unfolding atoms_most
+ended-requires c =
+    omega (
+      arith,
+      ap length c.loop-i.invariant,
+      length-append model_word (spaced_all (in_atoms c.loop-i.i c.args.map.now)),
+      atoms_room c.args.map.now c.loop-i.i (omega arith),
+    )
 
 pub returns : goal.returns
+unfolding model_line atoms_most
 returns c =
-    held
-    (retold (ap (λ (k : ℕ). model_line k c.args.map.now) c.atoms_of.ensures) c.put_model-len.ensures)
+    let all : c.loop-i.i ≡ min c.args.n atoms_most = omega (arith, c.min-i-end.ensures) in
+    c.ended.ensures ∙ ap (λ t. t ++ feed) c.loop-i.invariant
+    ∙ ap (λ (k : ℕ). model_word ++ spaced_all (in_atoms k c.args.map.now) ++ feed) all

@@ -1,6 +1,6 @@
 -- `weigh::weigh`: what is summed and what the rest weighs is what the whole run weighs, at each turn. So no sum is more
 -- than the whole, which fits.
-use Prim.Native.Nat.{◌+◌, ◌-◌, ◌≤◌}
+use Prim.Native.Nat.{◌+◌}
 use mathlib.Core.Path.{◌≡◌}
 use Rattle.rules.specs.Stable.{gain}
 use Rattle.rules.specs.Map.{side}
@@ -10,8 +10,4 @@ use Rattle.weigh.proofs.weigh.Given as goal
 
 abbrev pub invariant-loop-j : goal.invariant-loop-j
 invariant-loop-j l =
-    (l.from ≤ l.j) ×
-    (l.sum + gain (sees l.equal l.given (side l.n l.m)) (seg l.code l.j l.to) ≡ gain (sees l.equal l.given (side l.n l.m)) (seg l.code l.from l.to))
-
-abbrev pub decreases-loop-j : goal.decreases-loop-j
-decreases-loop-j l = l.to - l.j
+    let p = sees l.seen (side l.row.atoms l.m) in l.sum + gain p (seg l.row.code.now l.j l.to) ≡ gain p (seg l.row.code.now l.from l.to)

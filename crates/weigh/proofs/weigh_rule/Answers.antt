@@ -7,44 +7,31 @@ use Rattle.weigh.specs.Inner.Weigh.{sees}
 use Rattle.weigh.proofs.Weights.{seg_cast, value_runs, value_light}
 use Rattle.weigh.proofs.weigh_rule.Goals as goal
 
-pub weigh-first-requires : goal.weigh-first-requires
-weigh-first-requires c =
-    record {
-      seg = seg_cast _ _ c.positives_at.ensures c.negatives_at-middle.ensures
-          (c.requires.0.literals true);
-      room =
-          c.requires.1.0;
-    }
+pub weigh-requires : goal.weigh-requires
+weigh-requires c =
+    record { seg = seg_cast _ _ c.positives.ensures c.negatives-middle.ensures (c.args.row.now.stands.literals true); room = c.requires.first }
 
-pub weigh-second-requires : goal.weigh-second-requires
-weigh-second-requires c =
-    record {
-      seg = seg_cast _ _ c.negatives_at-middle.ensures c.end_at.ensures
-          (c.requires.0.literals false);
-      room =
-          c.requires.1.1;
-    }
+pub weigh-requires-2 : goal.weigh-requires-2
+weigh-requires-2 c =
+    record { seg = seg_cast _ _ c.negatives-middle.ensures c.end.ensures (c.args.row.now.stands.literals false); room = c.requires.second }
 
 pub overflow_add-result : goal.overflow_add-result
 unfolding atoms_most weight_most
 overflow_add-result c =
     let a = c.args in
-    let p = sees a.equal a.given (side a.n a.p.now) in
-    let q = sees a.same a.other (side a.n a.q.now) in
+    let row = a.row.now in
+    let p = sees a.seen (side row.atoms a.p.now) in
+    let q = sees a.also (side row.atoms a.q.now) in
     omega (
       arith,
-      value_runs a.code.now a.i p q c.weigh-first.ensures c.weigh-second.ensures
-          c.positives_at.ensures c.negatives_at-middle.ensures
-          c.end_at.ensures,
-      value_light a.code.now a.i p q a.n
-          c.requires.0,
+      value_runs row.code.now row.at p q c.weigh.ensures c.weigh-2.ensures c.positives.ensures c.negatives-middle.ensures c.end.ensures,
+      value_light row.code.now row.at p q row.atoms row.stands,
     )
 
 pub returns : goal.returns
 returns c =
     let a = c.args in
-    let p = sees a.equal a.given (side a.n a.p.now) in
-    let q = sees a.same a.other (side a.n a.q.now) in
-    value_runs a.code.now a.i p q c.weigh-first.ensures c.weigh-second.ensures
-    c.positives_at.ensures c.negatives_at-middle.ensures
-    c.end_at.ensures
+    let row = a.row.now in
+    let p = sees a.seen (side row.atoms a.p.now) in
+    let q = sees a.also (side row.atoms a.q.now) in
+    value_runs row.code.now row.at p q c.weigh.ensures c.weigh-2.ensures c.positives.ensures c.negatives-middle.ensures c.end.ensures

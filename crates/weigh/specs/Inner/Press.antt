@@ -8,8 +8,7 @@ use Rattle.rules.specs.Forcing.{Closed}
 use Rattle.rules.specs.Inner.Bytes.{MapBytes}
 use Rattle.table.specs.Inner.Words.{pair_atom, pair_weight, Pair, Seg}
 use Rattle.table.specs.Inner.Rows.{row_rule}
-use Rattle.weigh.specs.Inner.Step.{Concludes, Decided, Kept, Step, Till}
-use Rattle.weigh.specs.declared.Outcome.{Outcome}
+use Rattle.weigh.specs.Inner.Step.{Concludes, Decided, Kept, Outcome, Step, Till}
 
 -- pair j, if it weighs enough, is not undecided
 abbrev pub PairPressed : List ℕ → ℕ → ℕ → Map → Type 0

@@ -1,11 +1,10 @@
 -- "A map is closed when none of these adds anything. An atom forced both ways is a contradiction."
 -- What a step that works on a map's bytes promises. What it adds holds in every good map above the one that it started from; for
 -- the four forcing rules a good map is a closed one.
-use Rattle.std.specs.Prelude.{ℕ, ◌≤◌, ◌<◌, ◌-◌, ◌≡◌, Bool, true, false, List, length, get_or, set}
+use Rattle.std.specs.Prelude.{ℕ, ◌≤◌, ◌<◌, ◌-◌, ◌≡◌, Bool, true, false, List, length, get_or, set, Result, Ok, Err}
 use Rattle.rules.specs.Inner.Bytes.{MapBytes}
 use Rattle.rules.specs.Map.{Map, side, ◌⊑◌, undecided}
-use Rattle.weigh.specs.declared.Outcome.{Outcome}
-use Rattle.weigh.specs.declared.Outcome.TheVariants.{Clash, Same, Grew}
+use Rattle.weigh.specs.declared.Clash.{Clash}
 
 -- M' holds M, and no more than every good map above M holds
 pub record Forces (Good : Map → Type 0) (M M' : Map) : Type 0 where
@@ -31,37 +30,28 @@ pub record Grown (Good : Map → Type 0) (n : ℕ) (m m' : List ℕ) : Type 0 wh
   pub forces : Forces Good (side n m) (side n m')
   pub fewer : undecided n m' < undecided n m
 
+-- what a step says: no good map is above; or whether it added something
+abbrev pub Outcome : Type 0
+Outcome = Result Bool Clash
+
 -- a step found no good map; or nothing to add, and the map is quiet; or it added something
 abbrev pub Went : (Map → Type 0) → ℕ → (Map → Type 0) → List ℕ → List ℕ → Outcome → Type 0
-Went Good n Quiet m m' Clash = Clashes Good (side n m)
-Went Good n Quiet m m' Same = (m' ≡ m) × Quiet (side n m)
-Went Good n Quiet m m' Grew = Grown Good n m m'
+Went Good n Quiet m m' (Err _) = Clashes Good (side n m)
+Went Good n Quiet m m' (Ok false) = (m' ≡ m) × Quiet (side n m)
+Went Good n Quiet m m' (Ok true) = Grown Good n m m'
 
 pub record Step (Good : Map → Type 0) (n : ℕ) (Quiet : Map → Type 0) (m m' : List ℕ) (r : Outcome) : Type 0 where
   pub kept : Kept n m m'
   pub went : Went Good n Quiet m m' r
 
--- the outcome of one step and then another
-abbrev pub both : Outcome → Outcome → Outcome
-both Clash r = Clash
-both Same r = r
-both Grew Clash = Clash
-both Grew Same = Grew
-both Grew Grew = Grew
-
 -- an atom is put on a side: it was on the other, or there, or undecided
 abbrev pub Put : ℕ → List ℕ → ℕ → ℕ → List ℕ → Outcome → Type 0
-Put n m a v m' Clash = (m' ≡ m) × ((side n m a ≡ v → ⊥) × (side n m a ≡ 0 → ⊥))
-Put n m a v m' Same = (m' ≡ m) × (side n m a ≡ v)
-Put n m a v m' Grew = (m' ≡ set m (a - 1) v) × (side n m a ≡ 0)
+Put n m a v m' (Err _) = (m' ≡ m) × ((side n m a ≡ v → ⊥) × (side n m a ≡ 0 → ⊥))
+Put n m a v m' (Ok false) = (m' ≡ m) × (side n m a ≡ v)
+Put n m a v m' (Ok true) = (m' ≡ set m (a - 1) v) × (side n m a ≡ 0)
 
 pub record Puts (n : ℕ) (m : List ℕ) (a v : ℕ) (m' : List ℕ) (r : Outcome) : Type 0 where
   pub put : Put n m a v m' r
-
-abbrev pub is_clash : Outcome → Bool
-is_clash Clash = true
-is_clash Same = false
-is_clash Grew = false
 
 -- a test of a map at every place from one to before another
 abbrev pub Till : (ℕ → Map → Type 0) → ℕ → ℕ → Map → Type 0
@@ -71,13 +61,3 @@ Till Q from to M = (k : ℕ) → from ≤ k → k < to → Q k M
 pub record Decided (v : ℕ) : Type 0 where
   pub low : 1 ≤ v
   pub high : v ≤ 2
-
-abbrev pub is_grew : Outcome → Bool
-is_grew Clash = false
-is_grew Same = false
-is_grew Grew = true
-
-abbrev pub is_same : Outcome → Bool
-is_same Clash = false
-is_same Same = true
-is_same Grew = false

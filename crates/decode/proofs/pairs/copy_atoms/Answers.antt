@@ -9,6 +9,7 @@ use Rattle.rules.specs.Limits.{number_most}
 use Rattle.rules.specs.Rule.{ones}
 use Rattle.numbers.specs.Lists.{numbers_from}
 use Rattle.numbers.proofs.lists.Numbers.{numbers_turn, numbers_over}
+use Rattle.table.specs.Inner.Words.{pair_width}
 use Rattle.repeats.specs.Inner.Marks.{mixed_all}
 use Rattle.repeats.proofs.marks.Laws.{mark_turn, mark_done}
 use Rattle.decode.proofs.Taken.{number_fits, past_turn, past_over}
@@ -21,40 +22,52 @@ loop-init c =
       search rules,
       pairs_begin (simp sub-zero),
       simp sub-zero,
-      simp sub-zero (ap (λ (m : ℕ). mixed_all 0 m 0 (numbers_from a.count a.s.now a.first)) c.carried-mark.ensures),
+      simp sub-zero (ap (λ (m : ℕ). mixed_all 0 m 0 (numbers_from a.count a.s.now a.from.next)) c.carried.ensures),
     )
 
-pub write_pair-j-requires : goal.write_pair-j-requires
+pub write_pair-requires : goal.write_pair-requires
 unfolding number_most
-write_pair-j-requires c =
+write_pair-requires c =
     let l = c.loop in
     let a = c.args in
     record {
       room =
           left_room l.invariant.1
           (ap ones
-          (numbers_turn a.s.now a.count l.counter l.at c.loop-test.true c.take_number-atom.ensures))
+          (numbers_turn a.s.now a.count l.counter l.to.next c.loop-test.true c.take_number-atom.ensures))
           c.requires;
-      atom_fits = number_fits a.s.now l.at c.take_number-atom.ensures;
+      atom_fits = number_fits a.s.now l.to.next c.take_number-atom.ensures;
       weight_fits = omega arith;
     }
 
-pub mixed-mark-requires : goal.mixed-mark-requires
-mixed-mark-requires c =
+pub overflow_add-to : goal.overflow_add-to
+unfolding pair_width
+overflow_add-to c =
     let l = c.loop in
     let a = c.args in
-    number_fits a.s.now l.at c.take_number-atom.ensures
+    omega (
+      arith,
+      left_room l.invariant.1
+          (ap ones (numbers_turn a.s.now a.count l.counter l.to.next c.loop-test.true c.take_number-atom.ensures))
+          c.requires,
+    )
+
+pub mixed-requires : goal.mixed-requires
+mixed-requires c =
+    let l = c.loop in
+    let a = c.args in
+    number_fits a.s.now l.to.next c.take_number-atom.ensures
 
 pub loop-preserved : goal.loop-preserved
 loop-preserved c =
     let l = c.loop in
     let a = c.args in
-    let turn = numbers_turn a.s.now a.count l.counter l.at c.loop-test.true c.take_number-atom.ensures in (
+    let turn = numbers_turn a.s.now a.count l.counter l.to.next c.loop-test.true c.take_number-atom.ensures in (
       omega arith,
-      left_turn l.invariant.1 (ap ones turn) c.write_pair-j.ensures,
-      past_turn a.s.now a.count l.counter l.at c.loop-test.true c.take_number-atom.ensures
+      left_turn l.invariant.1 (ap ones turn) c.write_pair.ensures,
+      past_turn a.s.now a.count l.counter l.to.next c.loop-test.true c.take_number-atom.ensures
           ∙ l.invariant.2,
-      mark_turn 0 l.mark 0 turn c.mixed-mark.ensures ∙ l.invariant.3,
+      mark_turn 0 l.to.mark 0 turn c.mixed.ensures ∙ l.invariant.3,
     )
 
 pub shape_of-code : goal.shape_of-code
@@ -64,9 +77,9 @@ pub returns : goal.returns
 returns c =
     let l = c.loop in
     let a = c.args in
-    let over = numbers_over a.s.now a.count l.counter l.at c.loop-test.false in
+    let over = numbers_over a.s.now a.count l.counter l.to.next c.loop-test.false in
     record {
       pairs = left_done l.invariant.1 (ap ones over);
-      next = sym (past_over a.s.now a.count l.counter l.at c.loop-test.false) ∙ l.invariant.2;
-      mark = mark_done 0 l.mark 0 over ∙ l.invariant.3;
+      next = sym (past_over a.s.now a.count l.counter l.to.next c.loop-test.false) ∙ l.invariant.2;
+      mark = mark_done 0 l.to.mark 0 over ∙ l.invariant.3;
     }

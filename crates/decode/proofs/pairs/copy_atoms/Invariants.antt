@@ -11,10 +11,8 @@ use Rattle.decode.proofs.pairs.copy_atoms.Given as goal
 
 abbrev pub invariant-loop : goal.invariant-loop
 invariant-loop l =
+    let from = l.fn.from in
     (l.counter ≤ l.count)
-    × PairsLeft l.initial.code l.from (ones (numbers_from l.count l.s l.first)) l.code l.j (ones (numbers_from (l.count - l.counter) l.s l.at))
-    × (numbers_past (l.count - l.counter) l.s l.at ≡ numbers_past l.count l.s l.first)
-    × (mixed_all 0 l.mark 0 (numbers_from (l.count - l.counter) l.s l.at) ≡ atoms_mark l.before (numbers_from l.count l.s l.first))
-
-abbrev pub decreases-loop : goal.decreases-loop
-decreases-loop l = l.count - l.counter
+    × PairsLeft l.initial.code from.pair (ones (numbers_from l.count l.s from.next)) l.code l.to.pair (ones (numbers_from (l.count - l.counter) l.s l.to.next))
+    × (numbers_past (l.count - l.counter) l.s l.to.next ≡ numbers_past l.count l.s from.next)
+    × (mixed_all 0 l.to.mark 0 (numbers_from (l.count - l.counter) l.s l.to.next) ≡ atoms_mark from.mark (numbers_from l.count l.s from.next))

@@ -7,31 +7,19 @@ use Rattle.decode.proofs.pairs.Weights.{weights_begin, weights_turn, weights_don
 use Rattle.decode.proofs.pairs.copy_weights.Goals as goal
 
 pub loop-j-init : goal.loop-j-init
-loop-j-init c = weights_begin _ _ _ _ _ _ c.requires.0 c.carried-mark.ensures
+loop-j-init c = weights_begin _ _ _ _ _ _ c.requires.order c.carried-mark.ensures
 
-pub overflow_mul-j : goal.overflow_mul-j
+pub set_word-requires-clause-inside : goal.set_word-requires-clause-inside
 unfolding pair_width
-overflow_mul-j c = omega arith
+set_word-requires-clause-inside c = omega (arith, c.loop-j.invariant.long, c.requires.room)
 
-pub set_word-requires : goal.set_word-requires
-unfolding pair_width
-set_word-requires c =
-    let l = c.loop-j in (
-      omega (arith, l.invariant.long),
-      number_fits c.args.s.now l.at c.take_number-weight.ensures,
-    )
-
-pub overflow_sub-j : goal.overflow_sub-j
-overflow_sub-j c = omega (arith, c.loop-j.invariant.low)
+pub set_word-requires-clause-fits : goal.set_word-requires-clause-fits
+set_word-requires-clause-fits c = number_fits c.args.s.now c.loop-j.next c.take_number-weight.ensures
 
 pub mixed-mark-requires : goal.mixed-mark-requires
 mixed-mark-requires c =
     let l = c.loop-j in
-    number_fits c.args.s.now l.at c.take_number-weight.ensures
-
-pub overflow_add-j : goal.overflow_add-j
-unfolding pair_width
-overflow_add-j c = omega arith
+    number_fits c.args.s.now l.next c.take_number-weight.ensures
 
 pub loop-j-preserved : goal.loop-j-preserved
 unfolding pair_width

@@ -4,24 +4,15 @@ use Rattle.decode.proofs.rows.write_rest.Goals as goal
 
 pub write_row-requires : goal.write_row-requires
 write_row-requires c =
-    let a = c.args in
-    row_asks a.s.now a.kind a.bound a.code.now a.i a.heads a.j a.before c.requires c.write_body-body.result
-    c.write_body-body.ensures
-    c.need-due.ensures
+    row_asks _ _ _ _ _ _ _ _ c.requires _ (rw c.weighs.ensures at c.write_body-body.ensures) c.need-due.ensures
 
 pub mixed-requires : goal.mixed-requires
 mixed-requires c =
-    let a = c.args in
-    need_fits a.s.now a.kind a.bound a.code.now a.i a.heads a.j a.before c.requires c.write_body-body.result
-    c.write_body-body.ensures
-    c.need-due.ensures
+    need_fits _ _ _ _ _ _ _ _ c.requires _ (rw c.weighs.ensures at c.write_body-body.ensures) c.need-due.ensures
 
 pub returns : goal.returns
 returns c =
-    let a = c.args in
-    rest_put a.s.now a.kind a.bound a.code.now a.i a.heads a.j a.before c.requires c.write_body-body.result
-    c.write_body-body.ensures
-    c.need-due.ensures
+    rest_put _ _ _ _ _ _ _ _ c.requires _ (rw c.weighs.ensures at c.write_body-body.ensures) c.need-due.ensures
     c.write_row.ensures
     c.carried.ensures
     c.mixed.ensures

@@ -5,12 +5,12 @@ use Rattle.decode.proofs.rows.write_rule.Goals as goal
 pub write_heads-heads-requires : goal.write_heads-heads-requires
 write_heads-heads-requires c =
     let a = c.args in
-    heads_fit a.s.now a.at a.code.now a.i a.j c.requires _ c.take_number-kind.ensures
+    heads_fit a.s.now a.at a.code.now a.i a.j c.requires _ c.take_number-number.ensures _ c.of-kind.ensures
 
 pub write_rest-requires : goal.write_rest-requires
 write_rest-requires c =
     let a = c.args in
-    rest_asks a.s.now a.at a.code.now a.i a.j c.requires _ c.take_number-kind.ensures
+    rest_asks a.s.now a.at a.code.now a.i a.j c.requires _ c.take_number-number.ensures _ c.of-kind.ensures
     c.write_heads-heads.result
     c.write_heads-heads.ensures
     _
@@ -19,7 +19,7 @@ write_rest-requires c =
 pub returns : goal.returns
 returns c =
     let a = c.args in
-    rule_put a.s.now a.at a.code.now a.i a.j c.requires _ c.take_number-kind.ensures
+    rule_put a.s.now a.at a.code.now a.i a.j c.requires _ c.take_number-number.ensures _ c.of-kind.ensures
     c.write_heads-heads.result
     c.write_heads-heads.ensures
     _

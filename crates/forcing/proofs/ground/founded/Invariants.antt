@@ -4,7 +4,7 @@ use Rattle.forcing.proofs.Founding.{Founding}
 use Rattle.forcing.proofs.ground.founded.Given as goal
 
 abbrev pub invariant-loop-down : goal.invariant-loop-down
-invariant-loop-down l = Founding l.code l.n l.count l.m l.initial.u l.u
+invariant-loop-down l = Founding l.t.code.now l.t.atoms l.t.rules l.m l.initial.u l.u
 
 abbrev pub decreases-loop-down : goal.decreases-loop-down
-decreases-loop-down l = undecided l.n l.u
+decreases-loop-down l = undecided l.t.atoms l.u

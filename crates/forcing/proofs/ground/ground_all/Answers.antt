@@ -1,64 +1,54 @@
 -- `forcing::ground::ground_all`: what the rules visited before the present one give from U is in U, or something was added.
-use Prim.Native.Nat.{◌<◌}
+use Prim.Native.Nat.{◌+◌}
 use native.Mathlib.Omega.{arith}
 use Rattle.rules.specs.Map.{side}
+use Rattle.std.specs.Prelude.{Ok, Err}
 use Rattle.table.specs.Inner.Rows.{row_rule, table_rules}
 use Rattle.table.proofs.Rows.{rule_mem}
-use Rattle.weigh.specs.Inner.Step.{Till}
-use Rattle.weigh.proofs.Steps.{quieter, steps_begin, steps_more, steps_end}
-use Rattle.forcing.specs.Inner.Ground.{Grounding, Grounded}
-use Rattle.forcing.proofs.Passes.{placed_less, visited, at_place}
+use Rattle.weigh.specs.Inner.Step.{Outcome, Step, Till}
+use Rattle.weigh.proofs.Steps.{after, clashed, clash_any, quieter, steps_more, steps_end}
+use Rattle.forcing.specs.Inner.Ground.{Grounding, Grounded, GroundsRule}
+use Rattle.forcing.proofs.Passes.{placed_less, visited}
 use Rattle.forcing.proofs.ground.ground_all.Invariants.{Visited}
 use Rattle.forcing.proofs.ground.ground_all.Goals as goal
-use Rattle.forcing.proofs.ground.ground_all.Goals.{After-place}
+use Rattle.forcing.proofs.ground.ground_all.Goals.{After-branch-grew}
 
-pub loop-i-init : goal.loop-i-init
-loop-i-init c =
-    let a = c.args in
-    steps_begin (Grounding (table_rules a.code.now a.count) (side a.n a.m.now)) a.n
-    (Visited a.code.now a.count a.down (side a.n a.m.now)) 0 a.u.now c.requires.1.1
+pub row-row-requires : goal.row-row-requires
+row-row-requires c = let t = c.args.t.now in omega (arith, c.place.ensures, placed_less c.args.down t.rules c.loop-i.i c.loop-i-test.true)
 
-pub place-requires : goal.place-requires
-place-requires c = c.loop-i-test.true
+-- one rule more
+turn :
+    (c : After-branch-grew) (q : Outcome)
+    → GroundsRule c.row-row.result.code.now c.row-row.result.atoms c.row-row.result.at c.args.m.now c.loop-i.u c.ground.new.u q
+    → Step (Grounding (table_rules c.args.t.now.code.now c.args.t.now.rules) (side c.args.t.now.atoms c.args.m.now)) c.args.t.now.atoms
+    (Till (Visited c.args.t.now.code.now c.args.t.now.rules c.args.down (side c.args.t.now.atoms c.args.m.now)) 0 (c.loop-i.i + 1))
+    c.args.u.now c.ground.new.u (after c.loop-i.grew q)
+turn c q b =
+    let t = c.args.t.now in
+    let P = table_rules t.code.now t.rules in
+    let M = side t.atoms c.args.m.now in
+    let s = rw (c.row-row.ensures.lent, c.row-row.ensures.atoms, c.row-row.ensures.at, c.place.ensures) at b in
+    steps_more (Grounding P M) t.atoms (Visited t.code.now t.rules c.args.down M) 0 c.loop-i.i c.args.u.now _ _ c.loop-i.grew q
+    c.loop-i.invariant s.kept
+    (λ up. s.step P (rule_mem t.code.now t.rules _ (placed_less c.args.down t.rules c.loop-i.i c.loop-i-test.true)))
 
--- the present rule is one of the table
-row : (c : After-place) → c.place.result < c.args.count
-row c =
-    let a = c.args in
-    omega (arith, c.place.ensures, placed_less a.down a.count c.loop-i.i c.loop-i-test.true)
-
-pub ground-one-requires : goal.ground-one-requires
-ground-one-requires c =
-    record {
-      row = c.requires.0.rows c.place.result (row (goal.at.ground-one-requires c).After-place);
-      proper = c.requires.1.0;
-      space = c.loop-i.invariant.kept.proper;
-    }
+pub returns-in_err-grew : goal.returns-in_err-grew
+returns-in_err-grew c =
+    let t = c.args.t.now in
+    let M = side t.atoms c.args.m.now in
+    rw (clashed _ c.from_residual.ensures.0)
+    (clash_any (Grounding (table_rules t.code.now t.rules) M) t.atoms (Till (Visited t.code.now t.rules c.args.down M) 0 (c.loop-i.i + 1))
+    (Till (λ k. Grounded (row_rule t.code.now k) M) 0 t.rules) _ _
+    (turn (goal.at.returns-in_err-grew c).After-branch-grew (Err (record {})) c.in_err-grew.ensures))
 
 pub loop-i-preserved : goal.loop-i-preserved
-loop-i-preserved c =
-    let a = c.args in
-    steps_more (Grounding (table_rules a.code.now a.count) (side a.n a.m.now)) a.n
-    (Visited a.code.now a.count a.down (side a.n a.m.now)) 0 c.loop-i.i a.u.now _ _ _ _ _
-    c.loop-i.invariant c.ground-one.ensures.kept
-    (λ up.
-    at_place (Grounding (table_rules a.code.now a.count) (side a.n a.m.now)) a.n
-    (λ x. Grounded (row_rule a.code.now x) (side a.n a.m.now))
-    c.place.ensures
-    (c.ground-one.ensures.step (table_rules a.code.now a.count)
-    (rule_mem a.code.now a.count c.place.result (row (goal.at.loop-i-preserved c).After-place))))
-    c.join-all.ensures
-
-pub shape_of-u : goal.shape_of-u
-shape_of-u c = c.loop-i.invariant.kept.long
+loop-i-preserved c = turn (goal.at.loop-i-preserved c).After-branch-grew (Ok c.in_ok-grew.field-0) c.in_ok-grew.ensures
 
 pub returns : goal.returns
 returns c =
-    let a = c.args in
-    quieter (Grounding (table_rules a.code.now a.count) (side a.n a.m.now)) a.n
-    (Till (Visited a.code.now a.count a.down (side a.n a.m.now)) 0 a.count)
-    (Till (λ k. Grounded (row_rule a.code.now k) (side a.n a.m.now)) 0 a.count) _ _ _
-    (visited (λ k. Grounded (row_rule a.code.now k) (side a.n a.m.now)) a.down a.count _)
-    (steps_end (Grounding (table_rules a.code.now a.count) (side a.n a.m.now)) a.n
-    (Visited a.code.now a.count a.down (side a.n a.m.now)) 0 a.count c.loop-i.i _ _ _
+    let t = c.args.t.now in
+    let M = side t.atoms c.args.m.now in
+    quieter (Grounding (table_rules t.code.now t.rules) M) t.atoms (Till (Visited t.code.now t.rules c.args.down M) 0 t.rules)
+    (Till (λ k. Grounded (row_rule t.code.now k) M) 0 t.rules) _ _ _ (visited (λ k. Grounded (row_rule t.code.now k) M) c.args.down t.rules _)
+    (steps_end (Grounding (table_rules t.code.now t.rules) M) t.atoms (Visited t.code.now t.rules c.args.down M) 0 t.rules c.loop-i.i _ _ _
     c.loop-i-test.false c.loop-i.invariant)

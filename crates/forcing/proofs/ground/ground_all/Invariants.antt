@@ -1,7 +1,5 @@
 -- `forcing::ground::ground_all`: what the rules visited before the present one give from U is in U, or something was added.
-use Prim.Native.Nat.{ℕ, ◌-◌}
-use mathlib.Core.Bool.{Bool}
-use mathlib.Core.List.{List}
+use Rattle.std.proofs.Common.{ℕ, Bool, List, Ok}
 use Rattle.rules.specs.Map.{Map, side}
 use Rattle.table.specs.Inner.Rows.{row_rule, table_rules}
 use Rattle.forcing.specs.Inner.Pass.{placed}
@@ -14,7 +12,7 @@ abbrev pub Visited : List ℕ → ℕ → Bool → Map → ℕ → Map → Type 
 Visited code count down M k = Grounded (row_rule code (placed down count k)) M
 
 abbrev pub invariant-loop-i : goal.invariant-loop-i
-invariant-loop-i l = Step (Grounding (table_rules l.code l.count) (side l.n l.m)) l.n (Till (Visited l.code l.count l.down (side l.n l.m)) 0 l.i) l.initial.u l.u l.all
-
-abbrev pub decreases-loop-i : goal.decreases-loop-i
-decreases-loop-i l = l.count - l.i
+invariant-loop-i l =
+    let M = side l.t.atoms l.m in
+    Step (Grounding (table_rules l.t.code.now l.t.rules) M) l.t.atoms (Till (Visited l.t.code.now l.t.rules l.down M) 0 l.i) l.initial.u l.u
+    (Ok l.grew)

@@ -1,55 +1,25 @@
 -- `forcing::ground::ground_heads`: the heads before the present one are in U, unless they are out.
-use mathlib.Core.Path.{sym, subst}
+use Prim.Native.Nat.{◌+◌}
 use native.Mathlib.Omega.{arith}
-use Rattle.rules.specs.Rule.{Within}
-use Rattle.forcing.proofs.Groundings.{heads_begin, heads_more, heads_end}
+use Rattle.std.specs.Prelude.{Ok, Err}
+use Rattle.weigh.proofs.Steps.{clashed}
+use Rattle.forcing.proofs.Groundings.{heads_more, heads_clash}
 use Rattle.forcing.proofs.ground.ground_heads.Goals as goal
 
-pub loop-j-init : goal.loop-j-init
-loop-j-init c =
-    let a = c.args in (
-      omega (arith, c.heads_at-j.ensures),
-      heads_begin a.code.now a.n a.i a.m.now a.u.now
-          c.requires _ c.heads_at-j.ensures,
-    )
-
-pub put_unless-one-requires : goal.put_unless-one-requires
-put_unless-one-requires c =
+pub returns-in_err-grew : goal.returns-in_err-grew
+returns-in_err-grew c =
     let a = c.args in
-    record {
-      within = subst (Within a.n) (sym c.atom_at.ensures)
-          (c.requires.row.heads.pairs
-          c.loop-j.j c.loop-j.invariant.0
-          (omega (arith, c.loop-j-test.true, c.positives_at-end.ensures))).within;
-      room = c.requires.proper;
-      space =
-          c.loop-j.invariant.1.kept.proper;
-    }
+    let row = a.row.now in
+    rw (clashed _ c.from_residual.ensures.0)
+    (heads_clash row.code.now row.atoms row.at a.m.now a.u.now row.stands c.requires.space (c.loop-j.j + 1) _
+    (heads_more row.code.now row.atoms row.at a.m.now a.u.now row.stands c.requires.space c.loop-j.j _ _ _ c.loop-j.grew (Err (record {}))
+    (omega (arith, c.loop-j.auto.j, c.heads-j.ensures)) (omega (arith, c.loop-j-test.true, c.positives-j-end.ensures)) c.atom_at.ensures
+    c.loop-j.invariant c.in_err-grew.ensures))
 
 pub loop-j-preserved : goal.loop-j-preserved
 loop-j-preserved c =
-    let a = c.args in (
-      omega arith,
-      heads_more a.code.now a.n a.i a.m.now a.u.now
-          c.requires
-          c.loop-j.j _ _ _ _ _ _
-          c.loop-j.invariant.0
-          (omega (
-            arith,
-            c.loop-j-test.true,
-            c.positives_at-end.ensures,
-          ))
-          c.atom_at.ensures
-          c.loop-j.invariant.1 c.put_unless-one.ensures
-          c.join-all.ensures,
-    )
-
-pub shape_of-u : goal.shape_of-u
-shape_of-u c = c.loop-j.invariant.1.kept.long
-
-pub returns : goal.returns
-returns c =
     let a = c.args in
-    heads_end a.code.now a.n a.i a.m.now a.u.now
-    c.requires c.loop-j.j _ _
-    (omega (arith, c.loop-j-test.false, c.positives_at-end.ensures)) c.loop-j.invariant.1
+    let row = a.row.now in
+    heads_more row.code.now row.atoms row.at a.m.now a.u.now row.stands c.requires.space c.loop-j.j _ _ _ c.loop-j.grew (Ok c.in_ok-grew.field-0)
+    (omega (arith, c.loop-j.auto.j, c.heads-j.ensures)) (omega (arith, c.loop-j-test.true, c.positives-j-end.ensures)) c.atom_at.ensures
+    c.loop-j.invariant c.in_ok-grew.ensures

@@ -1,8 +1,6 @@
 -- `forcing::heads::settle_all`: the rules visited before the present one are settled, or something was added, from where the pass
 -- began.
-use Prim.Native.Nat.{ℕ, ◌-◌}
-use mathlib.Core.Bool.{Bool}
-use mathlib.Core.List.{List}
+use Rattle.std.proofs.Common.{ℕ, Bool, List, Ok}
 use Rattle.rules.specs.Map.{Map}
 use Rattle.rules.specs.Forcing.{Closed}
 use Rattle.table.specs.Inner.Rows.{row_rule, table_rules}
@@ -16,7 +14,6 @@ abbrev pub Visited : List ℕ → ℕ → Bool → ℕ → Map → Type 0
 Visited code count down k = Settled (row_rule code (placed down count k))
 
 abbrev pub invariant-loop-i : goal.invariant-loop-i
-invariant-loop-i l = Step (Closed (table_rules l.code l.count) l.n) l.n (Till (Visited l.code l.count l.down) 0 l.i) l.initial.m l.m l.all
-
-abbrev pub decreases-loop-i : goal.decreases-loop-i
-decreases-loop-i l = l.count - l.i
+invariant-loop-i l =
+    Step (Closed (table_rules l.t.code.now l.t.rules) l.t.atoms) l.t.atoms (Till (Visited l.t.code.now l.t.rules l.down) 0 l.i) l.initial.m l.m
+    (Ok l.grew)

@@ -1,25 +1,18 @@
--- `forcing::close::round`: a pass that adds something ends the round, and three that add nothing leave a closed map.
+-- `forcing::rounds::round`: a pass that adds something ends the round, and three that add nothing leave a closed map.
 use mathlib.Core.Path.{sym, ◌∙◌}
-use Rattle.rules.specs.Forcing.{Closed}
-use Rattle.table.specs.Inner.Rows.{table_rules}
-use Rattle.forcing.proofs.Closings.{loud_any, round_whole, round_second}
+use mathlib.Core.Bool.{true≢false}
+use Rattle.std.specs.Prelude.{Ok}
+use Rattle.forcing.proofs.Closings.{round_whole}
 use Rattle.forcing.proofs.rounds.round.Goals as goal
+use Rattle.forcing.proofs.rounds.round.Goals.{then-branch, else-branch+in_ok-drop_round}
 
-pub returns-then-is_same-2 : goal.returns-then-is_same-2
-returns-then-is_same-2 c =
-    let a = c.args in
-    round_whole a.code.now a.n a.count c.requires.0 _ _ _ _ _ _ _ c.requires.1 (sym c.is_same.ensures ∙ c.if-is_same.true)
-    c.back_round-first.ensures (sym c.is_same-then-is_same.ensures ∙ c.if-is_same-2.true) c.drop_round-second.ensures
-    c.settle_all.ensures
-
-pub returns-then-is_same : goal.returns-then-is_same
-returns-then-is_same c =
-    let a = c.args in
-    round_second a.code.now a.n a.count _ _ _ _ _ (sym c.is_same.ensures ∙ c.if-is_same.true)
-    c.back_round-first.ensures (sym c.is_same-then-is_same.ensures ∙ c.if-is_same-2.false) c.drop_round-second.ensures
-
-pub returns : goal.returns
-returns c =
-    let a = c.args in
-    loud_any (Closed (table_rules a.code.now a.count) a.n) a.n _ _ _ _ _
-    (sym c.is_same.ensures ∙ c.if-is_same.false) c.back_round-first.ensures
+pub returns-in_ok-settle_all : goal.returns-in_ok-settle_all
+returns-in_ok-settle_all c =
+    let t = c.args.t.now in
+    elim c.if-branch.branch [
+      | then-branch w ↦ absurd (true≢false (sym w.if-branch.true ∙ sym w.value-is ∙ c.if-branch-2.false))
+      | else-branch+in_ok-drop_round w ↦ round_whole t.code.now t.atoms t.rules t.laid _ _ _ _ (Ok c.in_ok-settle_all.field-0) c.requires
+          (rw w.if-branch.false at c.in_ok-back_round.ensures)
+          (rw (sym w.value-is ∙ c.if-branch-2.false) at w.in_ok-drop_round.ensures)
+          (rw w.m-is at c.in_ok-settle_all.ensures)
+    ]

@@ -1,76 +1,42 @@
 -- `forcing::support::back_all`: the rules before the present one are backed, or something was added, from where the pass began.
-use Prim.Native.Nat.{◌+◌}
-use mathlib.Core.Path.{sym, ◌∙◌}
-use Rattle.rules.specs.Map.{side}
+use Prim.Native.Nat.{ℕ, ◌+◌}
+use Rattle.rules.specs.Map.{side, Map}
 use Rattle.rules.specs.Forcing.{Closed}
+use Rattle.std.specs.Prelude.{Ok, Err}
 use Rattle.table.specs.Inner.Rows.{row_rule, table_rules}
 use Rattle.table.proofs.Rows.{rule_mem}
-use Rattle.weigh.proofs.Steps.{clash_any, steps_begin, steps_more, steps_end}
-use Rattle.forcing.specs.Inner.Support.{Counts, Backed, BacksAll}
+use Rattle.weigh.specs.Inner.Step.{Outcome, Till}
+use Rattle.weigh.proofs.Steps.{after, clashed, clash_any, steps_more}
+use Rattle.forcing.specs.Inner.Support.{Counts, Backed, BacksAll, Backs}
 use Rattle.forcing.proofs.support.back_all.Goals as goal
-use Rattle.forcing.proofs.support.back_all.Goals.{After-join-all}
+use Rattle.forcing.proofs.support.back_all.Goals.{After-branch-grew}
 
-pub loop-i-init : goal.loop-i-init
-loop-i-init c =
-    let a = c.args in
-    steps_begin (Closed (table_rules a.code.now a.count) a.n) a.n
-    (λ k M. Counts (table_rules a.code.now a.count) a.n M a.counts.now → Backed (table_rules a.code.now a.count)
-    (row_rule a.code.now k) M)
-    0 a.m.now c.requires.1.1.0
-
-pub back-one-requires : goal.back-one-requires
-back-one-requires c =
-    record {
-      row = c.requires.0.rows c.loop-i.i
-          c.loop-i-test.true;
-      room = c.requires.1.0;
-      proper =
-          c.loop-i.invariant.kept.proper;
-    }
+Told : After-branch-grew → ℕ → Map → Type 0
+Told c k M =
+    let P = table_rules c.args.t.now.code.now c.args.t.now.rules in
+    Counts P c.args.t.now.atoms M c.args.counts.now → Backed P (row_rule c.args.t.now.code.now k) M
 
 -- one rule more
 turn :
-    (c : After-join-all)
-    → BacksAll c.args.code.now
-    c.args.n
-    c.args.count
-    c.args.counts.now
-    (c.loop-i.i + 1)
-    c.args.m.now
-    c.back-one.new.m c.join-all.result
-turn c =
-    let a = c.args in
-    steps_more (Closed (table_rules a.code.now a.count) a.n) a.n
-    (λ k M. Counts (table_rules a.code.now a.count) a.n M a.counts.now → Backed (table_rules a.code.now a.count)
-    (row_rule a.code.now k) M)
-    0 c.loop-i.i a.m.now _ _ _ _ _
-    c.loop-i.invariant c.back-one.ensures.kept
-    (λ up.
-    c.back-one.ensures.step (table_rules a.code.now a.count)
-    (rule_mem a.code.now a.count c.loop-i.i
-    c.loop-i-test.true)
-    (side a.n a.m.now) up c.requires.1.1.1)
-    c.join-all.ensures
+    (c : After-branch-grew) (q : Outcome) → Backs c.row.result.code.now c.row.result.atoms c.row.result.at c.args.counts.now c.loop-i.m c.back.new.m q
+    → BacksAll c.args.t.now.code.now c.args.t.now.atoms c.args.t.now.rules c.args.counts.now (c.loop-i.i + 1) c.args.m.now c.back.new.m
+    (after c.loop-i.grew q)
+unfolding Told
+turn c q b =
+    let t = c.args.t.now in
+    let P = table_rules t.code.now t.rules in
+    let s = rw (c.row.ensures.lent, c.row.ensures.atoms, c.row.ensures.at) at b in
+    steps_more (Closed P t.atoms) t.atoms (Told c) 0 c.loop-i.i c.args.m.now _ _ c.loop-i.grew q c.loop-i.invariant s.kept
+    (λ up. s.step P (rule_mem t.code.now t.rules c.loop-i.i c.loop-i-test.true) (side t.atoms c.args.m.now) up c.requires.counted)
 
-pub shape_of-m-then-is_clash : goal.shape_of-m-then-is_clash
-shape_of-m-then-is_clash c = (turn (goal.at.shape_of-m-then-is_clash c).After-join-all).kept.long
-
-pub returns-then-is_clash : goal.returns-then-is_clash
-returns-then-is_clash c =
-    let a = c.args in
-    clash_any (Closed (table_rules a.code.now a.count) a.n) a.n _ _ _ _ _
-    (sym c.is_clash.ensures ∙ c.if-is_clash.true) (turn (goal.at.returns-then-is_clash c).After-join-all)
+pub returns-in_err-grew : goal.returns-in_err-grew
+unfolding Told
+returns-in_err-grew c =
+    let t = c.args.t.now in
+    let before = (goal.at.returns-in_err-grew c).After-branch-grew in
+    rw (clashed _ c.from_residual.ensures.0)
+    (clash_any (Closed (table_rules t.code.now t.rules) t.atoms) t.atoms (Till (Told before) 0 (c.loop-i.i + 1)) (Till (Told before) 0 t.rules)
+    _ _ (turn before (Err (record {})) c.in_err-grew.ensures))
 
 pub loop-i-preserved : goal.loop-i-preserved
-loop-i-preserved c = turn (goal.at.loop-i-preserved c).After-join-all
-
-pub shape_of-m : goal.shape_of-m
-shape_of-m c = c.loop-i.invariant.kept.long
-
-pub returns : goal.returns
-returns c =
-    let a = c.args in
-    steps_end (Closed (table_rules a.code.now a.count) a.n) a.n
-    (λ k M. Counts (table_rules a.code.now a.count) a.n M a.counts.now → Backed (table_rules a.code.now a.count)
-    (row_rule a.code.now k) M)
-    0 a.count c.loop-i.i _ _ _ c.loop-i-test.false c.loop-i.invariant
+loop-i-preserved c = turn (goal.at.loop-i-preserved c).After-branch-grew (Ok c.in_ok-grew.field-0) c.in_ok-grew.ensures

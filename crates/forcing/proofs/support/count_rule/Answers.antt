@@ -4,25 +4,23 @@ use Rattle.rules.specs.Map.{side}
 use Rattle.forcing.proofs.Counting.{rule_still, rule_short, rule_long}
 use Rattle.forcing.proofs.support.count_rule.Goals as goal
 
-pub reach-requires : goal.reach-requires
-reach-requires c =
-    let p = c.requires in
-    (p.0, p.1.0)
-
-pub returns-then-reach-need_at : goal.returns-then-reach-need_at
-returns-then-reach-need_at c =
+pub returns-then-reach-need : goal.returns-then-reach-need
+returns-then-reach-need c =
     let a = c.args in
-    rule_short a.code.now a.n a.i c.requires.0 (side a.n a.m.now) a.counts.now a.counts.now _ _
-    c.need_at.ensures c.reach.ensures c.if-reach-need_at.true
+    let row = a.row.now in
+    rule_short row.code.now row.atoms row.at row.stands (side row.atoms a.m.now) a.counts.now a.counts.now _ _
+    c.need.ensures c.reach.ensures c.if-reach-need.true
 
-pub returns-else-reach-need_at : goal.returns-else-reach-need_at
-returns-else-reach-need_at c =
+pub returns-else-reach-need : goal.returns-else-reach-need
+returns-else-reach-need c =
     let a = c.args in
-    rule_long a.code.now a.n a.i c.requires.0 (side a.n a.m.now) a.counts.now _ _ _
-    c.need_at.ensures c.reach.ensures c.if-reach-need_at.false c.count_heads.ensures
+    let row = a.row.now in
+    rule_long row.code.now row.atoms row.at row.stands (side row.atoms a.m.now) a.counts.now _ _ _
+    c.need.ensures c.reach.ensures c.if-reach-need.false c.count_heads.ensures
 
 pub returns-else-has_scarce : goal.returns-else-has_scarce
 returns-else-has_scarce c =
     let a = c.args in
-    rule_still a.code.now a.n a.i c.requires.0 (side a.n a.m.now) a.counts.now a.counts.now _
+    let row = a.row.now in
+    rule_still row.code.now row.atoms row.at row.stands (side row.atoms a.m.now) a.counts.now a.counts.now _
     c.if-has_scarce.false c.has_scarce.ensures

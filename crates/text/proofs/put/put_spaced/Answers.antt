@@ -1,22 +1,21 @@
--- `put::put_spaced` meets its contract: a space, and then the number.
-use mathlib.Core.Path.{◌∙◌}
-use Rattle.text.specs.Line.{spaced}
-use Rattle.text.proofs.put.Laws.{then, room_first, room_after}
+-- `put::put_spaced` meets its contract: what std writes for the number is its digits, and a space and they fit.
+use Rattle.std.proofs.Common.{◌∷◌, ◌++◌, ◌∙◌, [], ap, ap₂, append_assoc, length, arith}
+use Rattle.text.specs.Line.{spaced, digits}
+use Rattle.text.proofs.Room.{decimal_digits}
 use Rattle.text.proofs.put.put_spaced.Goals as goal
 
-pub put_byte-first-requires : goal.put_byte-first-requires
+pub push_str-requires : goal.push_str-requires
 unfolding spaced
-put_byte-first-requires c = room_first _ c.requires
+push_str-requires c = omega (arith, c.requires)
 
-pub put_number-requires : goal.put_number-requires
+pub push_str-requires-2 : goal.push_str-requires-2
 unfolding spaced
-put_number-requires c = room_after c.requires c.put_byte-first.ensures
-
-pub shape_of-out : goal.shape_of-out
-shape_of-out c =
-    c.put_number.ensures.long
-    ∙ c.put_byte-first.ensures.long
+push_str-requires-2 c =
+    omega (arith, c.requires, c.push_str.ensures.len, ap length (c.format.ensures.text ∙ decimal_digits _ (omega arith)))
 
 pub returns : goal.returns
 unfolding spaced
-returns c = then c.put_byte-first.ensures c.put_number.ensures
+returns c =
+    c.push_str-2.ensures.bytes
+    ∙ ap₂ ◌++◌ c.push_str.ensures.bytes (c.format.ensures.text ∙ decimal_digits _ (omega arith))
+    ∙ append_assoc c.args.line.now.bytes (32 ∷ []) (digits c.args.x)
