@@ -7,21 +7,21 @@ use mathlib.Core.List.{List}
 use native.Mathlib.Omega.{arith}
 use lib.ListN.{length}
 use lib.Dec.{ltb, leb}
+use Rattle.std.specs.Prelude.{Option, Some, None, ok_or, Result, Ok, Err}
 use Rattle.rules.specs.Limits.{highest_refusal}
 use Rattle.rules.specs.Number.{checked_atom}
 use Rattle.rules.specs.Sum.{pick}
 use Rattle.numbers.specs.Answer.{reason_number, refusal, read_then}
-use Rattle.numbers.specs.declared.reason.Reason.{Reason}
-use Rattle.numbers.specs.declared.reason.Reason.TheVariants.{EndsEarly, NotShortest, NoAtom, NotIncreasing, FourthByte, OutsideLimits}
 use Rattle.numbers.specs.Number.{number_at, within_at}
 use Rattle.numbers.specs.Lists.{atom_at, up_to, in_turn, list_at}
 use Rattle.numbers.specs.Shown.Refusals.{NumberRefused, ends, padded, large}
+use Rattle.numbers.specs.declared.reason.Reason.{Reason}
+use Rattle.numbers.specs.declared.reason.Reason.TheVariants.{EndsEarly, NotShortest, NoAtom, NotIncreasing, FourthByte, OutsideLimits}
 use Rattle.numbers.specs.declared.Refusal.{Refusal}
 use Rattle.numbers.specs.declared.Span.{Span}
 use Rattle.numbers.proofs.Reasons.{reason_numbered}
 use Rattle.numbers.proofs.number.Most.{number_far}
 use Rattle.numbers.proofs.number.Refusals.{refused_why}
-use Rattle.std.specs.Prelude.{Option, Some, None, ok_or, Result, Ok, Err}
 
 -- a refusal of one of the numbers that there are, at a place up to the last
 pub record Placed (last : ℕ) (why : Refusal) : Type 0 where

@@ -4,8 +4,8 @@ use Rattle.std.specs.Prelude.{ℕ, zero, suc, List, [], ◌∷◌, leb, Result, 
 use Rattle.rules.specs.Number.{checked_atom}
 use Rattle.rules.specs.Sum.{pick}
 use Rattle.numbers.specs.Answer.{refusal, span, read_then}
-use Rattle.numbers.specs.declared.reason.Reason.TheVariants.{NoAtom, NotIncreasing}
 use Rattle.numbers.specs.Number.{number_at, within_at, taken_at}
+use Rattle.numbers.specs.declared.reason.Reason.TheVariants.{NoAtom, NotIncreasing}
 use Rattle.numbers.specs.declared.Refusal.{Refusal}
 use Rattle.numbers.specs.declared.Span.{Span}
 

@@ -1,5 +1,5 @@
 // The numbers and the lists of a sheet: what its bytes say at a place, or why they are refused. Every reader takes any bytes and any
-// place.
+// place, so bytes, atom count and place stay parameters: a struct of them would hold no fact, and its methods be no plainer.
 #![tactic(auto)]
 
 ghost use Rattle.std.specs.Prelude.{◌≡◌};
@@ -15,11 +15,11 @@ pub use number::{read_number, read_within, take_number};
 pub use reason::Reason;
 pub use short::{SHORT_MOST, past_bytes};
 
-// Why a sheet is refused: the reason, and its place.
+// Why a sheet is refused: the reason, and its place. The place stands first, so that in a Result it shares its word with a value.
 #[derive(Clone, Copy, Debug, PartialEq, Eq)]
 pub struct Refusal {
-    pub reason: Reason,
     pub place: usize,
+    pub reason: Reason,
 }
 
 // What was read: its value, its first place, and the place after it. Of a list the value is its count, and `first` is the place of

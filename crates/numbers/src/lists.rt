@@ -36,7 +36,7 @@ fn short_atoms(s: &[u8], n: usize, count: usize, first: usize) -> Span
     let most = n.min(SHORT_MOST);
     let mut above = 0;
     let mut at = first;
-    // kept by hand: the index is the answer, and an iterator over pairs would count it beside itself
+    // Counted by hand: the index is the answer, so an iterator over pairs would count it beside itself.
     while 1 < end - at {
         let atom = usize::from(s[at]);
         let next = usize::from(s[at + 1]);

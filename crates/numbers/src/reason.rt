@@ -1,4 +1,4 @@
-// Why a sheet or a call is refused: each reason by its name, with the paper's sentence for it and its number.
+// Why a sheet or a call is refused: each reason by its name, with its number and the sentence for it.
 ghost use Rattle.std.specs.Prelude.{◌≡◌};
 ghost use Rattle.numbers.specs.Answer.{reason_number, refusal};
 
@@ -7,62 +7,45 @@ use super::Refusal;
 #[derive(Clone, Copy, Debug, PartialEq, Eq)]
 pub enum Reason {
     // "sheet ends inside or before a number that is due", at the sheet's length
-    EndsEarly,
+    EndsEarly = 1,
     // "a number not in its shortest form", at its first byte
-    NotShortest,
+    NotShortest = 2,
     // "edition not 1", at its first byte
-    Edition,
+    Edition = 3,
     // a count or a weight "outside its limits", at its first byte
-    OutsideLimits,
+    OutsideLimits = 4,
     // "kind not 1, 2, 3, 5", at its first byte
-    UnknownKind,
+    UnknownKind = 5,
     // "atom 0 or above n on the sheet", at its first byte
-    NoAtom,
+    NoAtom = 6,
     // "list not strictly increasing", at the later atom
-    NotIncreasing,
+    NotIncreasing = 7,
     // "bytes after the compute-out list", at the first such byte
-    BytesLeft,
+    BytesLeft = 8,
     // "sheet longer than 65,536 bytes", at 65,536
-    TooLong,
+    TooLong = 9,
     // "map shorter than n", at 0
-    MapTooShort,
+    MapTooShort = 10,
     // "pinned atom 0 or above n, or side not 1 or 2", at 0
-    BadPin,
+    BadPin = 11,
     // "map byte not allowed", at its index
-    BadMapByte,
+    BadMapByte = 12,
     // "rule number 0 or above the rule count", at 0
-    NoRule,
+    NoRule = 13,
     // "margin asked on a contradiction", at 0
-    MarginOnContradiction,
+    MarginOnContradiction = 14,
     // "a fourth byte with its top bit set", at the number's first byte
-    FourthByte,
+    FourthByte = 15,
     // "a constraint or weight rule whose need is above the sum of its own weights", at the bound's first byte
-    BoundTooHigh,
+    BoundTooHigh = 16,
 }
 
 impl Reason {
-    // The number by which the paper names the reason.
+    // The number of the refusal.
     pub fn number(self) -> usize
         ensures { result ≡ reason_number self }
     {
-        match self {
-            Reason::EndsEarly => 1,
-            Reason::NotShortest => 2,
-            Reason::Edition => 3,
-            Reason::OutsideLimits => 4,
-            Reason::UnknownKind => 5,
-            Reason::NoAtom => 6,
-            Reason::NotIncreasing => 7,
-            Reason::BytesLeft => 8,
-            Reason::TooLong => 9,
-            Reason::MapTooShort => 10,
-            Reason::BadPin => 11,
-            Reason::BadMapByte => 12,
-            Reason::NoRule => 13,
-            Reason::MarginOnContradiction => 14,
-            Reason::FourthByte => 15,
-            Reason::BoundTooHigh => 16,
-        }
+        self as usize
     }
 
     // The refusal for this reason, at a place.

@@ -4,11 +4,14 @@ use mathlib.Core.Path.{◌≡◌, refl, sym, ap, subst, ◌∙◌}
 use mathlib.Core.List.{List, Memᴰ}
 use native.Mathlib.Omega.{arith}
 use lib.ListN.{length}
+use Rattle.std.specs.Prelude.{Result, Ok, Err}
 use Rattle.rules.specs.Limits.{bytes_most}
 use Rattle.rules.specs.Rule.{Rule, Sheet}
 use Rattle.rules.specs.Stable.{Dead}
 use Rattle.rules.proofs.Fits.{Numbered}
 use Rattle.numbers.specs.Shown.Encode.{IsBytes}
+use Rattle.numbers.specs.Answer.{read_then}
+use Rattle.numbers.specs.declared.Refusal.{Refusal}
 use Rattle.sheet.specs.Sheet.{sheet_read}
 use Rattle.sheet.specs.Meaning.{accepted, refused, sheet_meant, sheet_of}
 use Rattle.sheet.specs.Shown.Encode.{encode, AllLiving, WellFormed}
@@ -16,9 +19,6 @@ use Rattle.sheet.specs.declared.Outline.{Outline}
 use Rattle.sheet.proofs.sheet.Ran.{SheetRan, sheet_ran}
 use Rattle.sheet.proofs.sheet.Written.{sheet_written}
 use Rattle.sheet.proofs.Fits.{formed_numbered}
-use Rattle.std.specs.Prelude.{Result, Ok, Err}
-use Rattle.numbers.specs.declared.Refusal.{Refusal}
-use Rattle.numbers.specs.Answer.{read_then}
 
 -- a meaning came of an accepted check
 pub outlined : (s : List ℕ) (sh : Sheet) → sheet_of s ≡ accepted sh → (o : Outline) × (sheet_read s ≡ Ok o) × (sheet_meant s o ≡ sh)

@@ -8,9 +8,9 @@ use lib.ListN.{length, get_or}
 use lib.Dec.{ltb}
 use borrow.Author.Tests.{ltb-true}
 use Rattle.rules.specs.Rule.{Rule, Sheet, atoms_of, weights_of}
+use Rattle.rules.specs.Sum.{pick}
 use Rattle.rules.specs.declared.kind.Kind.{Kind}
 use Rattle.rules.specs.declared.kind.Kind.TheVariants.{Basic as basic, Constraint as constraint, Choice as choice, Weight as weight}
-use Rattle.rules.specs.Sum.{pick}
 use Rattle.numbers.specs.Shown.Encode.{groups_of, number_bytes, numbers_bytes, list_bytes, IsBytes}
 use Rattle.sheet.specs.Shown.Encode.{body_bytes, kind_bytes, rule_bytes, encode}
 

@@ -8,18 +8,20 @@ use native.Mathlib.Omega.{arith}
 use lib.ListN.{length}
 use lib.Dec.{ltb, eqb}
 use borrow.Author.Tests.{ltb-false}
+use Rattle.std.specs.Prelude.{⊤, Result, Ok, Err}
 use Rattle.rules.specs.Limits.{atoms_most, rules_most, bytes_most, weight_most}
 use Rattle.rules.specs.Rule.{checked_kind}
-use Rattle.rules.specs.declared.kind.Kind.{Kind}
-use Rattle.rules.specs.declared.kind.Kind.TheVariants.{Basic as basic, Constraint as constraint, Choice as choice, Weight as weight}
 use Rattle.rules.specs.Number.{checked_atom}
 use Rattle.rules.specs.Stable.{weight_sum}
+use Rattle.rules.specs.declared.kind.Kind.{Kind}
+use Rattle.rules.specs.declared.kind.Kind.TheVariants.{Basic as basic, Constraint as constraint, Choice as choice, Weight as weight}
 use Rattle.rules.specs.declared.Atom.{Atom}
 use Rattle.numbers.specs.Answer.{read_then}
 use Rattle.numbers.specs.declared.reason.Reason.TheVariants.{Edition, UnknownKind, NoAtom, BytesLeft, TooLong, BoundTooHigh}
 use Rattle.numbers.specs.declared.Refusal.{Refusal}
 use Rattle.numbers.specs.declared.Span.{Span}
 use Rattle.numbers.proofs.Places.{Placed, placed, Tame, gets, refuses, TameRead, pick_so, then_tame, some_tame, number_tame, within_tame, run_tame, list_tame}
+use Rattle.numbers.proofs.Answer.{not_ok, same_ok}
 use Rattle.sheet.specs.Body.{weight_at, weights_at, weights_due, need_for, weighed_at, body_at, unless_above, unless_dead}
 use Rattle.sheet.specs.RuleMeaning.{rule_meant}
 use Rattle.sheet.specs.Rule.{head_then, basic_at, bounded, bounded_at, choice_at, kind_at, rule_at, rule_step, rules_at}
@@ -29,8 +31,6 @@ use Rattle.sheet.specs.declared.SheetKind.{SheetKind}
 use Rattle.sheet.specs.declared.SheetKind.TheVariants.{Basic, Choice}
 use Rattle.sheet.specs.declared.SheetRule.{SheetRule}
 use Rattle.sheet.specs.declared.Outline.{Outline}
-use Rattle.numbers.proofs.Answer.{not_ok, same_ok}
-use Rattle.std.specs.Prelude.{⊤, Result, Ok, Err}
 
 -- a rule that ends within the bytes, or a refusal within them
 abbrev TameRule : List ℕ → Result SheetRule Refusal → Type 0

@@ -7,9 +7,9 @@ use Rattle.rules.specs.Limits.{weight_most}
 use Rattle.rules.specs.Sum.{pick}
 use Rattle.rules.specs.Stable.{weight_sum}
 use Rattle.numbers.specs.Answer.{refusal, span, read_then}
-use Rattle.numbers.specs.declared.reason.Reason.TheVariants.{BoundTooHigh}
 use Rattle.numbers.specs.Number.{within_at}
 use Rattle.numbers.specs.Lists.{in_turn, list_at}
+use Rattle.numbers.specs.declared.reason.Reason.TheVariants.{BoundTooHigh}
 use Rattle.numbers.specs.declared.Refusal.{Refusal}
 use Rattle.numbers.specs.declared.Span.{Span}
 use Rattle.sheet.specs.RuleMeaning.{rule_meant}

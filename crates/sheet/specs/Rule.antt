@@ -7,14 +7,14 @@
 -- Refusal 5: "kind not 1, 2, 3, 5", at its first byte.
 use Rattle.std.specs.Prelude.{ℕ, Bool, true, false, List, Result, Ok, Err, ok_or}
 use Rattle.rules.specs.Rule.{checked_kind}
+use Rattle.rules.specs.Number.{checked_atom}
 use Rattle.rules.specs.declared.kind.Kind.{Kind}
 use Rattle.rules.specs.declared.kind.Kind.TheVariants.{Basic as basic, Constraint as constraint, Choice as choice, Weight as weight}
-use Rattle.rules.specs.Number.{checked_atom}
 use Rattle.rules.specs.declared.Atom.{Atom}
 use Rattle.numbers.specs.Answer.{refusal, span, read_then}
-use Rattle.numbers.specs.declared.reason.Reason.TheVariants.{UnknownKind, NoAtom}
 use Rattle.numbers.specs.Number.{number_at}
 use Rattle.numbers.specs.Lists.{in_turn, list_at}
+use Rattle.numbers.specs.declared.reason.Reason.TheVariants.{UnknownKind, NoAtom}
 use Rattle.numbers.specs.declared.Refusal.{Refusal}
 use Rattle.numbers.specs.declared.Span.{Span}
 use Rattle.sheet.specs.Body.{body_at, unless_dead}

@@ -6,9 +6,9 @@ use Rattle.std.specs.Prelude.{ℕ, List, length, ltb, eqb, Result, Ok, Err}
 use Rattle.rules.specs.Limits.{atoms_most, rules_most, bytes_most}
 use Rattle.rules.specs.Sum.{pick}
 use Rattle.numbers.specs.Answer.{refusal, read_then}
-use Rattle.numbers.specs.declared.reason.Reason.TheVariants.{Edition, BytesLeft, TooLong}
 use Rattle.numbers.specs.Number.{number_at, within_at}
 use Rattle.numbers.specs.Lists.{list_at}
+use Rattle.numbers.specs.declared.reason.Reason.TheVariants.{Edition, BytesLeft, TooLong}
 use Rattle.numbers.specs.declared.Refusal.{Refusal}
 use Rattle.numbers.specs.declared.Span.{Span}
 use Rattle.sheet.specs.Rule.{rules_at}

@@ -7,6 +7,7 @@ use native.Mathlib.Omega.{arith}
 use lib.ListN.{length, drop, length-append}
 use lib.Dec.{leb}
 use borrow.Author.Tests.{leb-false, lt-leb}
+use Rattle.std.specs.Prelude.{ok_or, Result, Ok, Err}
 use Rattle.rules.specs.Limits.{number_most}
 use Rattle.rules.specs.Rule.{Within}
 use Rattle.rules.specs.Number.{checked_atom}
@@ -14,18 +15,17 @@ use Rattle.rules.specs.Sum.{pick}
 use Rattle.rules.specs.declared.Atom.{Atom}
 use Rattle.rules.proofs.Inside.{atom_is, atom_made}
 use Rattle.numbers.specs.Answer.{refusal, read_then, span}
-use Rattle.numbers.specs.declared.reason.Reason.TheVariants.{NoAtom}
 use Rattle.numbers.specs.Number.{number_at}
 use Rattle.numbers.specs.Lists.{atom_at, in_turn, up_to, numbers_from}
 use Rattle.numbers.specs.Shown.Encode.{number_bytes, numbers_bytes, IsBytes, Linked, none, more, Rises}
+use Rattle.numbers.specs.declared.reason.Reason.TheVariants.{NoAtom}
 use Rattle.numbers.specs.declared.Span.{Span}
+use Rattle.numbers.specs.declared.Refusal.{Refusal}
 use Rattle.numbers.proofs.Answer.{from_read, from_no, ok_some, not_ok, same_ok}
 use Rattle.numbers.proofs.Stands.{Stands, nothing, joined, stands_as}
 use Rattle.numbers.proofs.number.Most.{number_far}
 use Rattle.numbers.proofs.number.Encoded.{number_bytes_law, number_read, past}
 use Rattle.numbers.proofs.lists.Numbers.{numbers_more}
-use Rattle.std.specs.Prelude.{ok_or, Result, Ok, Err}
-use Rattle.numbers.specs.declared.Refusal.{Refusal}
 
 -- what a run that was read has read
 pub record Ran (Q : ℕ → ℕ → Type 0) (s : List ℕ) (left before at next : ℕ) : Type 0 where

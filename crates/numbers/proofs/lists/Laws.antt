@@ -3,12 +3,12 @@
 use Prim.Native.Nat.{ℕ, suc, ◌+◌, ◌-◌, ◌≤◌, ◌<◌}
 use mathlib.Core.Path.{◌≡◌, sym, ap, ◌∙◌}
 use native.Mathlib.Omega.{arith}
+use Rattle.std.specs.Prelude.{Result, Ok, Err}
 use Rattle.numbers.specs.Answer.{read_then}
 use Rattle.numbers.specs.Lists.{in_turn, up_to}
 use Rattle.numbers.specs.declared.Refusal.{Refusal}
 use Rattle.numbers.specs.declared.Span.{Span}
 use Rattle.numbers.proofs.Answer.{one_left}
-use Rattle.std.specs.Prelude.{Result, Ok, Err}
 
 module _ (step : ℕ → ℕ → Result Span Refusal) (n k before : ℕ) (done : Span) {r : Result Span Refusal} (left : in_turn step (n - k) before done ≡ r) where
   opened : k < n → in_turn step (suc (n - (k + 1))) before done ≡ r

@@ -3,15 +3,15 @@ use Prim.Native.Nat.{ℕ, zero, suc, ◌≤◌}
 use mathlib.Core.Path.{◌≡◌, sym, ap}
 use mathlib.Core.List.{List}
 use native.Mathlib.Omega.{arith}
+use Rattle.std.specs.Prelude.{Result, Ok, Err}
 use Rattle.rules.specs.Limits.{number_most}
 use Rattle.numbers.specs.Answer.{span}
 use Rattle.numbers.specs.Number.{within_at}
 use Rattle.numbers.specs.Lists.{atom_at, in_turn, up_to, list_at}
 use Rattle.numbers.specs.declared.Span.{Span}
+use Rattle.numbers.specs.declared.Refusal.{Refusal}
 use Rattle.numbers.proofs.Answer.{from_read, not_ok, same_ok}
 use Rattle.numbers.proofs.number.Most.{Limited, limited, number_most_law}
-use Rattle.std.specs.Prelude.{Result, Ok, Err}
-use Rattle.numbers.specs.declared.Refusal.{Refusal}
 
 pub run_keeps :
     (step : ℕ → ℕ → Result Span Refusal) (left before : ℕ) (done p : Span) → in_turn step left before done ≡ Ok p

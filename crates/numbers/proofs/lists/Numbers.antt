@@ -5,12 +5,12 @@ use mathlib.Core.Path.{◌≡◌, refl, ap, ◌∙◌, sym}
 use mathlib.Core.List.{List, [], ◌∷◌}
 use native.Mathlib.Omega.{arith}
 use lib.ListN.{length}
+use Rattle.std.specs.Prelude.{Ok}
 use Rattle.numbers.specs.Number.{number_at, taken_at}
 use Rattle.numbers.specs.Lists.{numbers_from}
 use Rattle.numbers.specs.declared.Span.{Span}
 use Rattle.numbers.proofs.Answer.{one_left}
 use Rattle.numbers.proofs.number.Taken.{taken_read}
-use Rattle.std.specs.Prelude.{Ok}
 
 pub numbers_more :
     (s : List ℕ) (left at : ℕ) (p : Span) → number_at s at ≡ Ok p

@@ -6,6 +6,7 @@ use mathlib.Core.List.{List, ◌++◌, append_assoc}
 use native.Mathlib.Omega.{arith}
 use lib.ListN.{length, drop, length-append}
 use borrow.Author.Tests.{le-ltb}
+use Rattle.std.specs.Prelude.{Result, Ok, Err}
 use Rattle.rules.specs.Limits.{number_most}
 use Rattle.rules.specs.Sum.{pick}
 use Rattle.numbers.specs.Answer.{read_then, span}
@@ -13,14 +14,13 @@ use Rattle.numbers.specs.Number.{number_at, within_at}
 use Rattle.numbers.specs.Lists.{atom_at, in_turn, list_at, numbers_from, numbers_of}
 use Rattle.numbers.specs.Shown.Encode.{number_bytes, numbers_bytes, list_bytes, IsBytes, Linked, none, more, Rises, Rising}
 use Rattle.numbers.specs.declared.Span.{Span}
+use Rattle.numbers.specs.declared.Refusal.{Refusal}
 use Rattle.numbers.proofs.lists.Numbers.{numbers_count}
 use Rattle.numbers.proofs.Stands.{Stands, joined, stands_as}
 use Rattle.numbers.proofs.number.Most.{number_far}
 use Rattle.numbers.proofs.number.Encoded.{number_bytes_law, number_read, past}
 use Rattle.numbers.proofs.lists.Most.{listed}
 use Rattle.numbers.proofs.lists.Encoded.{ran, numbers_read, written, atom_sound, atom_complete}
-use Rattle.std.specs.Prelude.{Result, Ok, Err}
-use Rattle.numbers.specs.declared.Refusal.{Refusal}
 
 pub record ListRan (s : List ℕ) (least n at : ℕ) (p : Span) : Type 0 where
   pub rising : Rising n (numbers_of s p)

@@ -11,6 +11,7 @@ use lib.ListN.{length, get_or, drop, length-drop}
 use lib.Seq.{drop-cons, drop-drop, get_or-drop, drop-append_seam}
 use lib.Dec.{ltb, eqb}
 use borrow.Author.Tests.{lt-ltb, le-ltb, ltb-true, ltb-false, eqb-false, ne_eqb}
+use Rattle.std.specs.Prelude.{Result, Ok}
 use Rattle.rules.specs.Limits.{number_most}
 use Rattle.rules.specs.Sum.{pick}
 use Rattle.numbers.specs.Answer.{read_then, span}
@@ -21,7 +22,6 @@ use Rattle.numbers.specs.declared.Span.{Span}
 use Rattle.numbers.proofs.Answer.{not_ok}
 use Rattle.numbers.proofs.Stands.{Stands}
 use Rattle.numbers.proofs.number.Most.{Groups, last, more, groups}
-use Rattle.std.specs.Prelude.{Result, Ok}
 
 -- a group after the first is no needless one, so what it is a part of is 1 at least
 groups_some :

@@ -8,14 +8,14 @@ use native.Mathlib.Numerals.{add-one}
 use lib.ListN.{length, get_or}
 use lib.Dec.{lit<}
 use borrow.Author.Tests.{lt-ltb, le-ltb, ne_eqb}
+use Rattle.std.specs.Prelude.{Result, Ok, Err}
 use Rattle.rules.specs.Sum.{pick}
 use Rattle.numbers.specs.Answer.{read_then, span, refusal}
-use Rattle.numbers.specs.declared.reason.Reason.TheVariants.{EndsEarly, NotShortest, FourthByte}
 use Rattle.numbers.specs.Number.{groups_from, number_at, higher, taken_from, taken_at}
+use Rattle.numbers.specs.declared.reason.Reason.TheVariants.{EndsEarly, NotShortest, FourthByte}
 use Rattle.numbers.specs.declared.Span.{Span}
-use Rattle.numbers.proofs.Answer.{one_left}
-use Rattle.std.specs.Prelude.{Result, Ok, Err}
 use Rattle.numbers.specs.declared.Refusal.{Refusal}
+use Rattle.numbers.proofs.Answer.{one_left}
 
 -- a number whose groups before these make up the sum
 abbrev pub raised : ℕ → ℕ → Span → Span

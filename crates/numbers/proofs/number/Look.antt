@@ -7,14 +7,14 @@ use lib.ListN.{length, get_or}
 use lib.Dec.{ltb, eqb}
 use borrow.Author.Tests.{ltb-true, ltb-false}
 use Rattle.std.specs.Prelude.{Result, Ok, Err}
-use Rattle.numbers.specs.declared.Refusal.{Refusal}
-use Rattle.numbers.specs.declared.Span.{Span}
+use Rattle.std.specs.Prelude.{Ok, Err}
 use Rattle.rules.specs.Sum.{pick}
 use Rattle.rules.proofs.Tests.{T_true, true_T, T_eq, T_and_left, T_and_right}
 use Rattle.numbers.specs.Answer.{read_then, span, refusal}
-use Rattle.numbers.specs.declared.reason.Reason.TheVariants.{EndsEarly, NotShortest}
 use Rattle.numbers.specs.Number.{groups_from, higher}
-use Rattle.std.specs.Prelude.{Ok, Err}
+use Rattle.numbers.specs.declared.Refusal.{Refusal}
+use Rattle.numbers.specs.declared.Span.{Span}
+use Rattle.numbers.specs.declared.reason.Reason.TheVariants.{EndsEarly, NotShortest}
 
 pub data Look (s : List ℕ) (left first at : ℕ) : Result Span Refusal → Type 0 where
   at_end : length s ≤ at → Look s left first at (Err (refusal EndsEarly (length s)))

@@ -8,14 +8,14 @@ use native.Mathlib.Nat.{pow-suc, one-le-pow}
 use lib.ListN.{length, get_or}
 use lib.Dec.{ltb, eqb, lit<}
 use borrow.Author.Tests.{ltb-false}
+use Rattle.std.specs.Prelude.{Result, Ok, Err}
 use Rattle.rules.specs.Limits.{number_most}
 use Rattle.numbers.specs.Answer.{span}
 use Rattle.numbers.specs.Number.{groups_from, number_at, within_at}
 use Rattle.numbers.specs.declared.Span.{Span}
+use Rattle.numbers.specs.declared.Refusal.{Refusal}
 use Rattle.numbers.proofs.Answer.{from_read, from_no, not_ok, same_ok}
 use Rattle.numbers.proofs.number.Look.{Look, at_end, left_out, final, further, look}
-use Rattle.std.specs.Prelude.{Result, Ok, Err}
-use Rattle.numbers.specs.declared.Refusal.{Refusal}
 
 -- what the groups from a place on can be, where they are a number's: one last group, or one more and the rest
 pub data Groups (s : List ℕ) (left first at : ℕ) (p : Span) : Type 0 where

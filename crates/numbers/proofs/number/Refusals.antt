@@ -7,16 +7,16 @@ use mathlib.Core.List.{List}
 use native.Mathlib.Omega.{arith}
 use lib.ListN.{length, get_or}
 use borrow.Author.Tests.{lt-ltb, le-ltb}
+use Rattle.std.specs.Prelude.{Result, Ok, Err}
 use Rattle.rules.specs.Sum.{pick}
 use Rattle.rules.proofs.Tests.{below?}
 use Rattle.numbers.specs.Answer.{read_then, refusal}
-use Rattle.numbers.specs.declared.reason.Reason.TheVariants.{EndsEarly, NotShortest, FourthByte}
 use Rattle.numbers.specs.Number.{groups_from, number_at}
 use Rattle.numbers.specs.Shown.Refusals.{RunsOn, NumberRefused, ends, padded, large}
+use Rattle.numbers.specs.declared.reason.Reason.TheVariants.{EndsEarly, NotShortest, FourthByte}
 use Rattle.numbers.specs.declared.Refusal.{Refusal}
 use Rattle.numbers.specs.declared.Span.{Span}
 use Rattle.numbers.proofs.number.Look.{Look, at_end, left_out, final, further, look}
-use Rattle.std.specs.Prelude.{Result, Ok, Err}
 
 got_no_refusal : {why : Refusal} (p : Span) → ◌≡◌ {A = Result Span Refusal} (Ok p) (Err why) → ⊥
 got_no_refusal p e = let z : ◌≡◌ {A = ℕ} 0 1 = cc in omega arith

@@ -9,6 +9,7 @@ use native.Mathlib.Nat.{pow-suc, one-le-pow}
 use lib.ListN.{length, get_or}
 use lib.Dec.{ltb, lit<}
 use borrow.Author.Tests.{lt-ltb, le-ltb, ltb-true}
+use Rattle.std.specs.Prelude.{Ok}
 use Rattle.rules.specs.Limits.{number_most}
 use Rattle.rules.specs.Sum.{pick}
 use Rattle.numbers.specs.Answer.{span}
@@ -16,7 +17,6 @@ use Rattle.numbers.specs.Number.{groups_from, number_at, higher, taken_from, tak
 use Rattle.numbers.specs.declared.Span.{Span}
 use Rattle.numbers.proofs.Answer.{not_ok}
 use Rattle.numbers.proofs.number.Most.{Groups, last, more, groups}
-use Rattle.std.specs.Prelude.{Ok}
 
 groups_taken : (s : List ℕ) (left first at : ℕ) (p : Span) → groups_from left s first at ≡ Ok p → taken_from left s first at ≡ p
 unfolding groups_from taken_from pick

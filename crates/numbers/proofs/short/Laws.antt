@@ -6,6 +6,7 @@ use mathlib.Core.List.{List}
 use native.Mathlib.Omega.{arith}
 use lib.ListN.{length, get_or}
 use borrow.Author.Tests.{lt-ltb, le-ltb, lt-leb}
+use Rattle.std.specs.Prelude.{Result, Ok}
 use Rattle.rules.specs.Sum.{pick}
 use Rattle.rules.proofs.Inside.{atom_made}
 use Rattle.numbers.specs.Answer.{span, read_then}
@@ -13,9 +14,8 @@ use Rattle.numbers.specs.Number.{groups_from, number_at}
 use Rattle.numbers.specs.Lists.{atom_at, in_turn}
 use Rattle.numbers.specs.Inner.Short.{past_bytes, Ahead}
 use Rattle.numbers.specs.declared.Span.{Span}
-use Rattle.numbers.proofs.lists.Laws.{turn}
-use Rattle.std.specs.Prelude.{Result, Ok}
 use Rattle.numbers.specs.declared.Refusal.{Refusal}
+use Rattle.numbers.proofs.lists.Laws.{turn}
 
 module _ (s : List ℕ) (count first : ℕ) where
   pub past_few : past_bytes s count first ≤ first + count
@@ -88,8 +88,3 @@ module _ (s : List ℕ) (n count first end most : ℕ) (e : end ≡ past_bytes s
       let z : at + 1 + 1 ≡ at + 2 = omega arith in
       subst (Ahead (atom_at s n) count first next) z
       (atom_ahead atom (at + 1) next (atom_ahead above at atom a (omega arith) g low (omega arith)) (omega arith) h up high)
-
--- what is so of a value and a place is so of those that an answer names
-pub span_at :
-    (P : ℕ → ℕ → Type 0) {value first at : ℕ} (p : Span) → p ≡ span value first at → P value at → P p.value p.next
-span_at P p e a = subst (λ (q : Span). P q.value q.next) (sym e) a

@@ -8,12 +8,13 @@ use native.Mathlib.Omega.{arith}
 use lib.ListN.{length}
 use lib.Dec.{ltb}
 use borrow.Author.Tests.{le-ltb, ltb-false}
+use Rattle.std.specs.Prelude.{Result, Ok, Err}
 use Rattle.rules.specs.Sum.{pick}
 use Rattle.rules.specs.Stable.{weight_sum}
 use Rattle.rules.proofs.Dead.{plain_sum}
 use Rattle.numbers.specs.Answer.{refusal, read_then}
-use Rattle.numbers.specs.declared.reason.Reason.TheVariants.{BoundTooHigh}
 use Rattle.numbers.specs.Lists.{numbers_of}
+use Rattle.numbers.specs.declared.reason.Reason.TheVariants.{BoundTooHigh}
 use Rattle.numbers.specs.declared.Refusal.{Refusal}
 use Rattle.numbers.specs.declared.Span.{Span}
 use Rattle.numbers.proofs.Answer.{got_by, handed_by, from_no, not_ok, same_ok}
@@ -26,7 +27,6 @@ use Rattle.sheet.specs.declared.SheetKind.TheVariants.{Basic, Constraint, Choice
 use Rattle.sheet.specs.declared.Literals.{Literals}
 use Rattle.sheet.specs.declared.SheetRule.{SheetRule}
 use Rattle.sheet.proofs.body.Ran.{body_ran}
-use Rattle.std.specs.Prelude.{Result, Ok, Err}
 
 pub no_two : false ≡ true → ⊥
 no_two e = let z : ◌≡◌ {A = ℕ} 0 1 = ap (λ (b : Bool). cond b 1 0) e in omega arith

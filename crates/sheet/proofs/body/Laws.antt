@@ -5,6 +5,7 @@ use mathlib.Core.List.{List}
 use native.Mathlib.Omega.{arith}
 use lib.ListN.{length, get_or}
 use borrow.Author.Tests.{le-ltb}
+use Rattle.std.specs.Prelude.{Ok}
 use Rattle.rules.specs.Limits.{weight_most}
 use Rattle.rules.specs.Sum.{pick}
 use Rattle.numbers.specs.Answer.{span, read_then}
@@ -14,7 +15,6 @@ use Rattle.numbers.specs.Inner.Short.{past_bytes, Ahead}
 use Rattle.numbers.specs.declared.Span.{Span}
 use Rattle.numbers.proofs.short.Laws.{past_few, past_there, byte_read, one_ahead}
 use Rattle.sheet.specs.Body.{weight_at}
-use Rattle.std.specs.Prelude.{Ok}
 
 pub weights_alike :
     (s : List ℕ) (left before other : ℕ) (done : Span) → in_turn (weight_at s) left before done ≡ in_turn (weight_at s) left other done

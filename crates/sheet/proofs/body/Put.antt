@@ -6,6 +6,7 @@ use mathlib.Core.Bool.{Bool, true, false}
 use mathlib.Core.List.{List, [], ◌∷◌}
 use native.Mathlib.Omega.{arith}
 use lib.ListN.{length}
+use Rattle.std.specs.Prelude.{Result, Ok, Err}
 use Rattle.rules.specs.Sum.{tally}
 use Rattle.rules.specs.Stable.{gain, value, everything, weight_sum}
 use Rattle.numbers.specs.Answer.{span, read_then}
@@ -24,7 +25,6 @@ use Rattle.sheet.specs.declared.Literals.{Literals}
 use Rattle.sheet.specs.declared.SheetRule.{SheetRule}
 use Rattle.sheet.proofs.body.Sums.{SumRan, sum_ran, sum_refused}
 use Rattle.sheet.proofs.body.Dead.{no_two, dead_got, dead_handed, plain_weighs}
-use Rattle.std.specs.Prelude.{Result, Ok, Err}
 
 -- literals that are weighed weigh what their weights add up to
 paired_sum : (xs ws : List ℕ) → length xs ≡ length ws → gain everything (paired xs ws) ≡ sum_of ws

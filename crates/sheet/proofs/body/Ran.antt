@@ -5,6 +5,7 @@ use mathlib.Core.Path.{◌≡◌, refl, sym, ap, ap₂, subst, ◌∙◌}
 use mathlib.Core.List.{List, ◌++◌, flat_map, append-nil}
 use native.Mathlib.Omega.{arith}
 use lib.ListN.{length}
+use Rattle.std.specs.Prelude.{Result, Ok, Err}
 use Rattle.rules.specs.Limits.{weight_most}
 use Rattle.numbers.specs.Answer.{span}
 use Rattle.numbers.specs.Number.{number_at}
@@ -23,7 +24,6 @@ use Rattle.sheet.specs.Body.{weight_at, weights_at, weights_due, need_for, weigh
 use Rattle.sheet.specs.Shown.Encode.{LightOne, Light}
 use Rattle.sheet.specs.declared.SheetKind.{SheetKind}
 use Rattle.sheet.specs.declared.SheetRule.{SheetRule}
-use Rattle.std.specs.Prelude.{Result, Ok, Err}
 
 weight_sound :
     (s : List ℕ) (before at : ℕ) (one : Span) → weight_at s before at ≡ Ok one → (number_at s at ≡ Ok one) × LightOne before one.value

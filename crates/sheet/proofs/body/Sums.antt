@@ -6,6 +6,7 @@ use mathlib.Core.List.{List}
 use native.Mathlib.Omega.{arith}
 use native.Mathlib.Nat.{le_trans, mul-le-mul_right}
 use lib.ListN.{get_or}
+use Rattle.std.specs.Prelude.{Result, Ok, Err}
 use Rattle.rules.specs.Limits.{weight_most, number_most}
 use Rattle.rules.specs.Sum.{tally}
 use Rattle.numbers.specs.Answer.{span, read_then}
@@ -23,7 +24,6 @@ use Rattle.numbers.proofs.short.Laws.{past_few, past_there, byte_read, none_ahea
 use Rattle.sheet.specs.Body.{weight_at, weights_at}
 use Rattle.sheet.specs.Inner.Sums.{sum_of, sum_at, AddedUp, AddedAhead}
 use Rattle.sheet.proofs.body.Laws.{weight_ahead}
-use Rattle.std.specs.Prelude.{Result, Ok, Err}
 
 numbers_sum_most : (s : List ℕ) (count at : ℕ) → sum_of (numbers_from count s at) ≤ count * number_most
 unfolding tally numbers_from

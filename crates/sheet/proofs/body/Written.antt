@@ -4,6 +4,7 @@ use mathlib.Core.Path.{◌≡◌, refl, ◌∙◌}
 use mathlib.Core.List.{List, ◌++◌, append_assoc}
 use native.Mathlib.Omega.{arith}
 use lib.ListN.{length, drop}
+use Rattle.std.specs.Prelude.{Ok}
 use Rattle.rules.specs.Limits.{number_most, weight_most}
 use Rattle.numbers.specs.Answer.{read_then, span}
 use Rattle.numbers.specs.Number.{number_at}
@@ -16,7 +17,6 @@ use Rattle.sheet.specs.Body.{weight_at, weights_at, weights_due, need_for, weigh
 use Rattle.sheet.specs.Shown.Encode.{LightOne, Light}
 use Rattle.sheet.specs.declared.SheetKind.{SheetKind}
 use Rattle.sheet.specs.declared.SheetRule.{SheetRule}
-use Rattle.std.specs.Prelude.{Ok}
 
 light_small : (before w : ℕ) → LightOne before w → w ≤ number_most
 unfolding weight_most number_most

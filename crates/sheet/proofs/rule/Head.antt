@@ -5,13 +5,13 @@ use mathlib.Core.Path.{◌≡◌, refl, sym, ap, ◌∙◌}
 use mathlib.Core.List.{List}
 use Rattle.std.specs.Prelude.{true, false, ok_or, Result, Ok, Err}
 use Rattle.rules.specs.Rule.{checked_kind}
+use Rattle.rules.specs.Number.{checked_atom}
 use Rattle.rules.specs.declared.kind.Kind.{Kind}
 use Rattle.rules.specs.declared.kind.Kind.TheVariants.{Basic as basic, Constraint as constraint, Choice as choice, Weight as weight}
-use Rattle.rules.specs.Number.{checked_atom}
 use Rattle.numbers.specs.Answer.{refusal, read_then}
-use Rattle.numbers.specs.declared.reason.Reason.TheVariants.{UnknownKind, NoAtom}
 use Rattle.numbers.specs.Number.{number_at}
 use Rattle.numbers.specs.Lists.{list_at}
+use Rattle.numbers.specs.declared.reason.Reason.TheVariants.{UnknownKind, NoAtom}
 use Rattle.numbers.specs.declared.Refusal.{Refusal}
 use Rattle.sheet.specs.Body.{body_at, unless_dead}
 use Rattle.sheet.specs.Rule.{head_then, basic_at, bounded_at, choice_at, kind_at, rule_at}

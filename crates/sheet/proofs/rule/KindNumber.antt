@@ -7,9 +7,9 @@ use lib.Dec.{eqb}
 use borrow.Author.Tests.{eqb-true}
 use Rattle.std.specs.Prelude.{Option, Some}
 use Rattle.rules.specs.Rule.{kind_number, checked_kind}
+use Rattle.rules.specs.Sum.{pick}
 use Rattle.rules.specs.declared.kind.Kind.{Kind}
 use Rattle.rules.specs.declared.kind.Kind.TheVariants.{Basic as basic, Constraint as constraint, Choice as choice, Weight as weight}
-use Rattle.rules.specs.Sum.{pick}
 
 -- it is found by the number of this kind, or by what is looked at next
 module _ (v : ℕ) (kind : Kind) where

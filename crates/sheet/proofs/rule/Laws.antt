@@ -2,11 +2,11 @@
 use Prim.Native.Nat.{ℕ}
 use mathlib.Core.Path.{◌≡◌, sym, ap, ◌∙◌}
 use mathlib.Core.List.{List}
+use Rattle.std.specs.Prelude.{Result, Ok, Err}
 use Rattle.numbers.specs.Answer.{span, read_then}
 use Rattle.numbers.specs.declared.Refusal.{Refusal}
 use Rattle.sheet.specs.Rule.{rule_at, rule_step}
 use Rattle.sheet.specs.declared.SheetRule.{SheetRule}
-use Rattle.std.specs.Prelude.{Result, Ok, Err}
 
 pub step_got :
     (s : List ℕ) (n before at : ℕ) (x : Result SheetRule Refusal) (rule : SheetRule) → x ≡ rule_at s n at → x ≡ Ok rule

@@ -6,10 +6,11 @@ use mathlib.Core.Bool.{Bool, true, false, cond}
 use mathlib.Core.List.{List, [], ◌∷◌, ◌++◌}
 use native.Mathlib.Omega.{arith}
 use lib.ListN.{length, length-map}
+use Rattle.std.specs.Prelude.{Ok, Err}
 use Rattle.rules.specs.Rule.{Rule, kind_number, one}
+use Rattle.rules.specs.Stable.{weight_sum, Living}
 use Rattle.rules.specs.declared.kind.Kind.{Kind}
 use Rattle.rules.specs.declared.kind.Kind.TheVariants.{Basic as basic, Constraint as constraint, Choice as choice, Weight as weight}
-use Rattle.rules.specs.Stable.{weight_sum, Living}
 use Rattle.rules.specs.declared.Atom.{Atom}
 use Rattle.rules.proofs.Dead.{length_living}
 use Rattle.numbers.specs.Number.{number_at}
@@ -31,7 +32,6 @@ use Rattle.sheet.proofs.body.Ran.{BodyRan, body_ran, body_bytes_law, plain_bytes
 use Rattle.sheet.proofs.body.Dead.{Lives, from_dead}
 use Rattle.sheet.proofs.rule.Apart.{ones_lists, weigh_atoms, weigh_weights, weigh_length}
 use Rattle.sheet.proofs.rule.Ran.{cases, HeadRan, head_ran}
-use Rattle.std.specs.Prelude.{Ok, Err}
 
 -- a rule that was read, and what it says
 pub record RuleRan (s : List ℕ) (n at : ℕ) (r : SheetRule) (m : Rule) : Type 0 where

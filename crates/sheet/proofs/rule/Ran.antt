@@ -3,25 +3,25 @@ use Prim.Native.Nat.{ℕ, ◌+◌, ◌≤◌}
 use mathlib.Core.Path.{◌≡◌, sym, ap, subst, ◌∙◌}
 use mathlib.Core.List.{List, [], ◌∷◌, flat_map, append-nil}
 use native.Mathlib.Omega.{arith}
+use Rattle.std.specs.Prelude.{ok_or, Result, Ok, Err}
 use Rattle.rules.specs.Rule.{Within, kind_number, checked_kind}
-use Rattle.rules.specs.declared.kind.Kind.{Kind}
 use Rattle.rules.specs.Number.{checked_atom}
+use Rattle.rules.specs.declared.kind.Kind.{Kind}
 use Rattle.rules.specs.declared.Atom.{Atom}
 use Rattle.rules.proofs.Inside.{atom_is}
-use Rattle.sheet.proofs.rule.KindNumber.{kind_is}
 use Rattle.numbers.specs.Answer.{refusal}
-use Rattle.numbers.specs.declared.reason.Reason.TheVariants.{UnknownKind, NoAtom}
 use Rattle.numbers.specs.Number.{number_at}
 use Rattle.numbers.specs.Shown.Encode.{number_bytes, numbers_bytes, IsBytes}
+use Rattle.numbers.specs.declared.reason.Reason.TheVariants.{UnknownKind, NoAtom}
 use Rattle.numbers.specs.declared.Span.{Span}
+use Rattle.numbers.specs.declared.Refusal.{Refusal}
 use Rattle.numbers.proofs.Answer.{from_read, ok_some, not_ok}
 use Rattle.numbers.proofs.Stands.{Stands, stands_as}
 use Rattle.numbers.proofs.number.Most.{number_far}
 use Rattle.numbers.proofs.number.Encoded.{number_bytes_law}
 use Rattle.sheet.specs.Rule.{head_then, kind_at, rule_at}
 use Rattle.sheet.specs.declared.SheetRule.{SheetRule}
-use Rattle.std.specs.Prelude.{ok_or, Result, Ok, Err}
-use Rattle.numbers.specs.declared.Refusal.{Refusal}
+use Rattle.sheet.proofs.rule.KindNumber.{kind_is}
 
 -- the kind that was read, and the rule after its number
 pub cases :

@@ -7,19 +7,21 @@ use mathlib.Core.List.{List, [], ◌∷◌, ◌++◌, flat_map, append_assoc, ap
 use native.Mathlib.Omega.{arith}
 use lib.ListN.{length, drop, length-append}
 use borrow.Author.Tests.{lt-ltb}
+use Rattle.std.specs.Prelude.{Result, Ok, Err}
 use Rattle.rules.specs.Limits.{number_most}
 use Rattle.rules.specs.Rule.{Rule, Weighted, Within, ones, basic_rule, constraint_rule, choice_rule, weight_rule, atoms_of, weights_of}
-use Rattle.rules.specs.declared.kind.Kind.TheVariants.{Basic as basic, Constraint as constraint, Choice as choice, Weight as weight}
 use Rattle.rules.specs.Sum.{pick}
 use Rattle.rules.specs.Stable.{weight_sum, Dead, Living}
+use Rattle.rules.specs.declared.kind.Kind.TheVariants.{Basic as basic, Constraint as constraint, Choice as choice, Weight as weight}
 use Rattle.rules.specs.declared.Atom.{Atom}
 use Rattle.rules.proofs.Inside.{atom_made}
 use Rattle.rules.proofs.Dead.{length_living}
 use Rattle.numbers.specs.Answer.{refusal, read_then, span}
-use Rattle.numbers.specs.declared.reason.Reason.TheVariants.{BoundTooHigh}
 use Rattle.numbers.specs.Number.{number_at}
 use Rattle.numbers.specs.Lists.{numbers_of}
 use Rattle.numbers.specs.Shown.Encode.{number_bytes, numbers_bytes, list_bytes, none, Rising}
+use Rattle.numbers.specs.declared.reason.Reason.TheVariants.{BoundTooHigh}
+use Rattle.numbers.specs.declared.Refusal.{Refusal}
 use Rattle.numbers.proofs.number.Encoded.{number_read, past}
 use Rattle.numbers.proofs.lists.Whole.{list_span, list_read, list_numbers, list_past_law}
 use Rattle.sheet.specs.Body.{need_for, body_at, unless_above, unless_dead}
@@ -34,8 +36,6 @@ use Rattle.sheet.proofs.body.Dead.{Lives, lives_on}
 use Rattle.sheet.proofs.body.Written.{BodyWritten, body_written}
 use Rattle.sheet.proofs.rule.KindNumber.{kind_made}
 use Rattle.sheet.proofs.rule.Apart.{plain_body, sizes, weigh_back}
-use Rattle.std.specs.Prelude.{Result, Ok, Err}
-use Rattle.numbers.specs.declared.Refusal.{Refusal}
 
 pub record RuleWritten (s : List ℕ) (n at : ℕ) (m : Rule) (q : List ℕ) (r : SheetRule) : Type 0 where
   pub reads : rule_at s n at ≡ unless_dead s (at + before_bound m) (Ok r)

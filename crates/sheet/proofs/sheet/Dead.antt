@@ -5,24 +5,24 @@ use mathlib.Core.Path.{◌≡◌, refl, ap, ◌∙◌}
 use mathlib.Core.List.{List, ◌++◌}
 use native.Mathlib.Omega.{arith}
 use lib.ListN.{length, drop}
+use Rattle.std.specs.Prelude.{Result, Err}
 use Rattle.rules.specs.Limits.{number_most, atoms_most, rules_most, bytes_most}
 use Rattle.rules.specs.Rule.{Rule}
 use Rattle.rules.specs.Stable.{Dead}
 use Rattle.numbers.specs.Answer.{refusal, read_then, span}
-use Rattle.numbers.specs.declared.reason.Reason.TheVariants.{BoundTooHigh}
 use Rattle.numbers.specs.Lists.{in_turn, up_to}
+use Rattle.numbers.specs.declared.reason.Reason.TheVariants.{BoundTooHigh}
 use Rattle.numbers.specs.declared.Refusal.{Refusal}
-use Rattle.sheet.specs.declared.Outline.{Outline}
 use Rattle.numbers.specs.declared.Span.{Span}
 use Rattle.numbers.proofs.Answer.{one_left}
 use Rattle.sheet.specs.Rule.{rule_step, rules_at}
 use Rattle.sheet.specs.Sheet.{tail_at, sheet_read}
 use Rattle.sheet.specs.Meaning.{accepted, refused, sheet_meant, sheet_of}
 use Rattle.sheet.specs.Shown.Encode.{rule_bytes, rules_bytes, before_bound, first_bytes, ProperRule, ProperRules, AllLiving}
+use Rattle.sheet.specs.declared.Outline.{Outline}
 use Rattle.sheet.proofs.rule.Laws.{step_out}
 use Rattle.sheet.proofs.rule.Written.{rule_written, dead_read}
 use Rattle.sheet.proofs.sheet.Written.{rules_written, atoms_small, counts_written}
-use Rattle.std.specs.Prelude.{Result, Err}
 
 module _ (n : ℕ) (rs : List Rule) (r : Rule) (q : List ℕ) (propers : ProperRules n rs) (living : AllLiving rs) (proper : ProperRule n r) (dead : Dead r) where
   rules_dead :

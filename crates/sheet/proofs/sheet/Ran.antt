@@ -7,6 +7,7 @@ use native.Mathlib.Omega.{arith}
 use lib.ListN.{length, drop_of_length-le}
 use lib.Dec.{ltb, eqb}
 use borrow.Author.Tests.{ltb-false, eqb-true}
+use Rattle.std.specs.Prelude.{Result, Ok, Err}
 use Rattle.rules.specs.Limits.{atoms_most, rules_most, bytes_most}
 use Rattle.rules.specs.Rule.{Rule}
 use Rattle.numbers.specs.Number.{number_at, within_at}
@@ -26,7 +27,6 @@ use Rattle.sheet.specs.Meaning.{rules_from, sheet_meant}
 use Rattle.sheet.specs.Shown.Encode.{rules_bytes, encode, AllLiving, WellFormed, ProperRules, rules_size}
 use Rattle.sheet.specs.declared.Outline.{Outline}
 use Rattle.sheet.proofs.sheet.Rules.{rules_ran}
-use Rattle.std.specs.Prelude.{Result, Ok, Err}
 
 -- the parts of an accepted sheet
 pub record SheetParts (s : List ℕ) (o : Outline) : Type 0 where

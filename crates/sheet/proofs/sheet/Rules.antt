@@ -7,10 +7,12 @@ use mathlib.Core.List.Memᴰ
 use mathlib.Core.List.{List, [], ◌∷◌, flat_map, Memᴰ}
 use native.Mathlib.Omega.{arith}
 use lib.ListN.{length}
+use Rattle.std.specs.Prelude.{Result, Ok, Err}
 use Rattle.rules.specs.Rule.{Rule}
 use Rattle.rules.specs.Stable.{Living}
 use Rattle.numbers.specs.Lists.{in_turn, up_to}
 use Rattle.numbers.specs.Shown.Encode.{IsBytes}
+use Rattle.numbers.specs.Answer.{read_then}
 use Rattle.numbers.specs.declared.Refusal.{Refusal}
 use Rattle.numbers.specs.declared.Span.{Span}
 use Rattle.numbers.proofs.Answer.{from_read, not_ok, same_ok}
@@ -21,8 +23,6 @@ use Rattle.sheet.specs.Meaning.{rules_from}
 use Rattle.sheet.specs.Shown.Encode.{rules_bytes, ProperRules, no_rules, and_rule, AllLiving, rules_size}
 use Rattle.sheet.specs.declared.SheetRule.{SheetRule}
 use Rattle.sheet.proofs.rule.Means.{rule_ran}
-use Rattle.std.specs.Prelude.{Result, Ok, Err}
-use Rattle.numbers.specs.Answer.{read_then}
 
 pub rules_more :
     (s : List ℕ) (n left at : ℕ) (r : SheetRule) → rule_at s n at ≡ Ok r

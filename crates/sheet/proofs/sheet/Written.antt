@@ -7,6 +7,7 @@ use mathlib.Core.List.{List, [], ◌∷◌, ◌++◌, flat_map, append_assoc, ap
 use native.Mathlib.Omega.{arith}
 use lib.ListN.{length, drop, length-drop, length-append}
 use borrow.Author.Tests.{le-ltb}
+use Rattle.std.specs.Prelude.{Result, Ok, Err}
 use Rattle.rules.specs.Limits.{number_most, atoms_most, rules_most, bytes_most}
 use Rattle.rules.specs.Rule.{Rule, Sheet}
 use Rattle.rules.specs.Sum.{pick}
@@ -14,6 +15,7 @@ use Rattle.numbers.specs.Answer.{read_then, span}
 use Rattle.numbers.specs.Lists.{in_turn, up_to, numbers_of}
 use Rattle.numbers.specs.Shown.Encode.{number_bytes, list_bytes, Rising}
 use Rattle.numbers.specs.declared.Span.{Span}
+use Rattle.numbers.specs.declared.Refusal.{Refusal}
 use Rattle.numbers.proofs.number.Encoded.{number_read, past}
 use Rattle.numbers.proofs.lists.Whole.{list_span, within_read, list_read, list_numbers, list_past_law}
 use Rattle.sheet.specs.Rule.{rule_step, rules_at}
@@ -26,8 +28,6 @@ use Rattle.sheet.proofs.Places.{rule_within}
 use Rattle.sheet.proofs.rule.Laws.{step_got}
 use Rattle.sheet.proofs.rule.Written.{rule_written, living_read}
 use Rattle.sheet.proofs.sheet.Rules.{rules_more}
-use Rattle.std.specs.Prelude.{Result, Ok, Err}
-use Rattle.numbers.specs.declared.Refusal.{Refusal}
 
 -- a rule that was read ends where what was written for it ends
 after_rule :

@@ -1,14 +1,14 @@
 -- "A rule is one of four kinds, each with its own head part": the head part as it is read, by itself, and then the body after it.
 use Rattle.std.specs.Prelude.{ℕ, Bool, true, false, List, Result, Ok, Err, ok_or}
 use Rattle.rules.specs.Rule.{checked_kind}
+use Rattle.rules.specs.Number.{checked_atom}
 use Rattle.rules.specs.declared.kind.Kind.{Kind}
 use Rattle.rules.specs.declared.kind.Kind.TheVariants.{Basic as basic, Constraint as constraint, Choice as choice, Weight as weight}
-use Rattle.rules.specs.Number.{checked_atom}
 use Rattle.rules.specs.declared.Atom.{Atom}
 use Rattle.numbers.specs.Answer.{refusal, read_then}
-use Rattle.numbers.specs.declared.reason.Reason.TheVariants.{UnknownKind, NoAtom}
 use Rattle.numbers.specs.Number.{number_at}
 use Rattle.numbers.specs.Lists.{list_at}
+use Rattle.numbers.specs.declared.reason.Reason.TheVariants.{UnknownKind, NoAtom}
 use Rattle.numbers.specs.declared.Refusal.{Refusal}
 use Rattle.sheet.specs.Body.{body_at, unless_dead}
 use Rattle.sheet.specs.Rule.{bounded}

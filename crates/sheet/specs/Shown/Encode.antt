@@ -3,13 +3,13 @@
 -- head, body; 2 constraint: head, bound, body; 3 choice: head list (count 1 to n, strictly increasing), body; 5 weight: head, bound, body,
 -- then one weight (0 to 1,000,000) for each positive and then for each negative literal, in body order." A rule "whose need is above the
 -- sum of its own weights is refused".
-use Rattle.std.specs.Prelude.{ℕ, ◌+◌, ◌≤◌, ◌≡◌, length}
 use mathlib.Core.List.{List, [], ◌∷◌, ◌++◌, flat_map, Memᴰ}
+use Rattle.std.specs.Prelude.{ℕ, ◌+◌, ◌≤◌, ◌≡◌, length}
 use Rattle.rules.specs.Limits.{atoms_most, rules_most, weight_most, number_most}
 use Rattle.rules.specs.Rule.{Rule, Weighted, Sheet, Within, basic_rule, constraint_rule, choice_rule, weight_rule, atoms_of, kind_number, weights_of}
+use Rattle.rules.specs.Stable.{Living}
 use Rattle.rules.specs.declared.kind.Kind.{Kind}
 use Rattle.rules.specs.declared.kind.Kind.TheVariants.{Basic as basic, Constraint as constraint, Choice as choice, Weight as weight}
-use Rattle.rules.specs.Stable.{Living}
 use Rattle.numbers.specs.Shown.Encode.{number_bytes, numbers_bytes, list_bytes, Linked, Rising}
 
 abbrev pub body_bytes : Rule → List ℕ

@@ -1,12 +1,9 @@
 -- `read_atoms` meets its contract: the atoms of one byte are passed first. The loop's invariant: the run of the atoms that are left, from here on, is the whole answer.
 use mathlib.Core.Path.{◌∙◌, ap}
 use native.Mathlib.Omega.{arith}
+use Rattle.std.specs.Prelude.{Ok}
 use Rattle.numbers.proofs.lists.Laws.{turn, turn_out, turned}
 use Rattle.numbers.proofs.lists.read_atoms.Goals as goal
-use Rattle.std.specs.Prelude.{Ok}
-
-pub loop-init : goal.loop-init
-loop-init c = (omega arith, c.short_atoms-short.ensures.rest)
 
 pub returns-in_default : goal.returns-in_default
 returns-in_default c =

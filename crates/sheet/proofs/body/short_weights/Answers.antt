@@ -1,11 +1,10 @@
 -- `short_weights` meets its contract. The loop's invariant: the run of the weights up to here is read, one byte each, and they are added up. A
 -- byte that is at most the lesser of the two limits is such a weight.
 use Prim.Native.Nat.{ℕ, ◌≤◌, ◌<◌}
-use mathlib.Core.Path.{◌≡◌, subst, sym}
+use mathlib.Core.Path.{subst, sym}
 use native.Mathlib.Omega.{arith}
 use Rattle.rules.specs.Limits.{weight_most, number_most}
-use Rattle.numbers.proofs.short.Laws.{past_from, past_there, span_at}
-use Rattle.sheet.specs.Inner.Sums.{AddedAhead}
+use Rattle.numbers.proofs.short.Laws.{past_from, past_there}
 use Rattle.sheet.proofs.body.Sums.{added_from, added_ahead, added_most}
 use Rattle.sheet.proofs.body.short_weights.Goals as goal
 
@@ -17,9 +16,6 @@ bounds-s-at c =
     let l = c.loop-at in
     past_there _ _ _ _ l.invariant.0.ahead.begun
     (subst (λ (end : ℕ). l.at < end) c.past_bytes-end.ensures c.loop-at-test.true)
-
-pub returns-then-most-weight : goal.returns-then-most-weight
-returns-then-most-weight c = span_at (AddedAhead _ _ _ _) c.new.result c.new.ensures c.loop-at.invariant.0
 
 pub overflow_add-sum : goal.overflow_add-sum
 unfolding number_most
@@ -35,10 +31,3 @@ loop-at-preserved c = (
       c.if-most-weight.false,
   omega (arith, c.loop-at-test.true),
 )
-
-pub returns : goal.returns
-returns c =
-    let l = c.loop-at in
-    let end : l.at ≡ c.past_bytes-end.result = omega (arith, c.loop-at-test.false, l.invariant.1) in
-    span_at (AddedAhead _ _ _ _) c.new-2.result c.new-2.ensures
-    (subst (λ (at : ℕ). AddedAhead c.args.s.now c.args.before c.args.count c.args.first l.sum at) end l.invariant.0)

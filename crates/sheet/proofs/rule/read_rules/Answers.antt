@@ -1,8 +1,8 @@
 -- `read_rules` meets its contract. The loop's invariant: the run of the rules that are left, from here on, is the whole answer.
 use mathlib.Core.Path.{◌≡◌, refl, sym, ap, ◌∙◌}
-use Rattle.std.specs.Prelude.{Ok, Err}
 use native.Mathlib.Nat.{sub-zero}
 use native.Mathlib.Omega.{arith}
+use Rattle.std.specs.Prelude.{Ok, Err}
 use Rattle.std.proofs.Common.{rules}
 use Rattle.numbers.proofs.lists.Laws.{turn, turn_out, turned}
 use Rattle.sheet.specs.Rule.{rules_at}
