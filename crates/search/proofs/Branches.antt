@@ -24,7 +24,6 @@ module _ {c : List ℕ} {n count : ℕ} (laid : Laid c n count) where
   ok = laid_numbered c n count laid
 
 module _ {c : List ℕ} {n count : ℕ} (laid : Laid c n count) {m : List ℕ} where
-
   -- nothing is left to decide
   pub decided_all : Standing c n count m → NoneWith 0 n m → Answers c n count m (Some m)
   decided_all st none = record { answer = (leaf (ok laid) st.closed decided st.held, whole) }
