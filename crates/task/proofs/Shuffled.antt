@@ -12,7 +12,7 @@ use Rattle.rules.proofs.Shuffle.{shuffled_sym, model_shuffled, first_shuffled, c
 use Rattle.gate.specs.declared.Task.{Task}
 use Rattle.gate.specs.declared.Task.TheVariants.{Stay, Open, Pin, Solve, Test, Rule as RuleTask}
 use Rattle.search.specs.Inner.Search.{FirstIn}
-use Rattle.task.specs.Inner.Perform.{ClosedFor, Tells, Comes, Performs}
+use Rattle.task.specs.Inner.Perform.{ClosedFor, Tells, Comes, Performs, model_from}
 use Rattle.task.specs.declared.Answer.{Answer}
 
 -- a task that asks of a rule asks of the same
@@ -34,7 +34,7 @@ module _ {sh sh' : Sheet} (k : Shuffled sh sh') (m' : List ℕ) where
   )
   closed_for Q Q' onto back false number none = contradiction_asked k Q Q' back none
 
-  first_in : (b : Bool) → FirstIn sh.atoms (Model sh) b m' → FirstIn sh'.atoms (Model sh') b m'
+  first_in : (b : Bool) → FirstIn sh.atoms (Model sh) (model_from b m') → FirstIn sh'.atoms (Model sh') (model_from b m')
   first_in true (first, whole) = (
     subst (λ (n : ℕ). First sh' (is 1 (side n m'))) k.atoms (first_shuffled k _ first),
     subst (λ (n : ℕ). Whole n m') k.atoms whole,

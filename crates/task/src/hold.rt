@@ -5,43 +5,41 @@ ghost use Rattle.rules.specs.Map.{signed};
 ghost use Rattle.rules.specs.Forcing.{computed};
 ghost use Rattle.rules.specs.Inner.Bytes.{MapBytes};
 ghost use Rattle.table.specs.Inner.Words.{seg_atoms, Seg};
-ghost use Rattle.table.specs.Inner.Rows.{table_sheet, Laid};
+ghost use Rattle.table.specs.Inner.Rows.{table_sheet};
 ghost use Rattle.task.specs.Inner.Hold.{Takes};
 
-use weigh::{is_clash, put, side_for};
+use table::{Table, TableRow};
+use weigh::{Clash, put, side_for};
 
-// One atom of n, put in or out: false where it is on the other side.
-pub fn hold_atom(n: u32, atom: u32, inside: bool, m: &mut [u8]) -> bool
-    requires { MapBytes n m.old × Within n atom }
+// One atom of n, put in or out: a clash where it is on the other side.
+pub fn hold_atom(n: u32, atom: u32, inside: bool, m: &mut [u8]) -> Result<(), Clash>
+    requires map { MapBytes n m.old }
+    requires within { Within n atom }
     ensures { Takes n m.old (signed inside atom ∷ []) m.new result }
 {
-    !is_clash(put(m, n, atom, side_for(inside)))
+    put(m, n, atom, side_for(inside))?;
+    Ok(())
 }
 
 // The atoms of the pairs from one place to before another.
-fn hold_pairs(code: &[u32], n: u32, from: u32, to: u32, inside: bool, m: &mut [u8]) -> bool
-    requires { Seg code.now n from to × MapBytes n m.old }
-    ensures { Takes n m.old (map (signed inside) (seg_atoms code.now from to)) m.new result }
+fn hold_pairs(row: &TableRow, from: u32, to: u32, inside: bool, m: &mut [u8]) -> Result<(), Clash>
+    requires pairs { Seg row.now.code.now row.now.atoms from to }
+    requires map { MapBytes row.now.atoms m.old }
+    ensures { Takes row.now.atoms m.old (map (signed inside) (seg_atoms row.now.code.now from to)) m.new result }
 {
-    let mut j = from;
-    while j < to {
-        if hold_atom(n, table::atom_at(code, j), inside, m) {
-            j += 1;
-        } else {
-            return false;
-        }
+    for j in from..to {
+        hold_atom(row.atoms, table::atom_at(row.code, j), inside, m)?;
     }
-    true
+    Ok(())
 }
 
-// Both compute lists: false where two of what they ask clash, or one with the map.
-pub fn hold_lists(code: &[u32], n: u32, count: u32, m: &mut [u8]) -> bool
-    requires { Laid code.now n count × MapBytes n m.old }
-    ensures { Takes n m.old (computed (table_sheet code.now n count)) m.new result }
+// Both compute lists: a clash where two of what they ask clash, or one with the map.
+pub fn hold_lists(t: &Table, m: &mut [u8]) -> Result<(), Clash>
+    requires { MapBytes t.now.atoms m.old }
+    ensures { Takes t.now.atoms m.old (computed (table_sheet t.now.code.now t.now.atoms t.now.rules)) m.new result }
 {
-    let middle = table::negatives_at(code, count);
-    if hold_pairs(code, n, table::positives_at(code, count), middle, true, m) {
-        return hold_pairs(code, n, middle, table::end_at(code, count), false, m);
-    }
-    false
+    let lists = t.row(t.rules);
+    let middle = lists.negatives();
+    hold_pairs(&lists, lists.positives(), middle, true, m)?;
+    hold_pairs(&lists, middle, lists.end(), false, m)
 }

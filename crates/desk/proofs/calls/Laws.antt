@@ -36,7 +36,7 @@ use Rattle.gate.specs.declared.Ask.TheVariants.{Margin, Part}
 use Rattle.gate.proofs.scan.Maps.{contradiction_bytes}
 use Rattle.gate.proofs.Calls.{Lent, Through, open_goes, solve_goes, pin_through, test_goes, margin_through, part_through}
 use Rattle.search.specs.Inner.Search.{FirstIn}
-use Rattle.task.specs.Inner.Perform.{ClosedFor, Comes, Performs, item_from}
+use Rattle.task.specs.Inner.Perform.{ClosedFor, Comes, Performs, item_from, model_from}
 use Rattle.task.specs.declared.Answer.{Answer}
 use Rattle.task.proofs.bytes.Laws.{copied_side, copied_undecided}
 use Rattle.desk.specs.Promise.{Upon, Checks, Parts, Ends, Opens, PinEnds, Pins, SolveEnds, Solves, Tests, Margins, PinAsks, part_is}
@@ -136,12 +136,12 @@ map_ends sh Q {a} {work} {m} {m'} {r} c e room h =
     by false k none (q, bytes) = subst (Ends sh Q m m') (sym q) (record { none = none; bytes = bytes })
 
 pub model_ends :
-    (sh : Sheet) {a : Answer} {work m m' : List ℕ} {r : Solved} → FirstIn sh.atoms (Model sh) a.found work → a.atoms ≡ sh.atoms
+    (sh : Sheet) {a : Answer} {work m m' : List ℕ} {r : Solved} → FirstIn sh.atoms (Model sh) (model_from a.found work) → a.atoms ≡ sh.atoms
     → HandsModel a work m m' r → SolveEnds sh m m' r
 model_ends sh {a} {work} {m} {m'} {r} f e h =
     by a.found f (subst (λ (n : ℕ). HandedModel a.found n work m m' r) e h.handed)
   where
-    by : (b : Bool) → FirstIn sh.atoms (Model sh) b work → HandedModel b sh.atoms work m m' r → SolveEnds sh m m' r
+    by : (b : Bool) → FirstIn sh.atoms (Model sh) (model_from b work) → HandedModel b sh.atoms work m m' r → SolveEnds sh m m' r
     by true (first, whole) (q, copied) =
         subst
         (SolveEnds sh m m')

@@ -3,7 +3,7 @@
 use Prim.Native.Nat.{ℕ, ◌+◌, ◌≤◌, ◌<◌}
 use mathlib.Core.Path.{◌≡◌, sym, ◌∙◌, subst}
 use mathlib.Core.Logic.{◌⊎◌, inl, inr}
-use mathlib.Core.Bool.{Bool, true, false, not, true≢false, false≢true}
+use mathlib.Core.Bool.{Bool, true, false, not}
 use mathlib.Core.List.{List, [], ◌∷◌, ◌++◌, map}
 use native.Mathlib.Omega.{arith}
 use Rattle.rules.specs.Rule.{Weighted, Within, atoms_of}
@@ -14,9 +14,9 @@ use Rattle.rules.proofs.Least.{holding_nil, holding_append, holding_left, holdin
 use Rattle.rules.proofs.Bytes.{over_written, written_over}
 use Rattle.table.specs.Inner.Words.{pair_atom, seg_atoms}
 use Rattle.table.proofs.Words.{seg_done, seg_next}
-use Rattle.weigh.specs.Inner.Step.{Puts, Decided, is_clash, Put}
-use Rattle.weigh.specs.declared.Outcome.{Outcome}
-use Rattle.weigh.specs.declared.Outcome.TheVariants.{Clash, Same, Grew}
+use Rattle.std.specs.Prelude.{Result, Ok, Err}
+use Rattle.weigh.specs.Inner.Step.{Outcome, Puts, Decided, Put}
+use Rattle.weigh.specs.declared.Clash.{Clash}
 use Rattle.weigh.proofs.Bytes.{proper_map}
 use Rattle.weigh.proofs.Steps.{kept_refl, kept_trans, kept_put}
 use Rattle.task.specs.Inner.Hold.{Took, Takes}
@@ -27,31 +27,36 @@ want_side false = record { low = omega arith; high = omega arith }
 
 -- one atom
 module _ (n : ℕ) (m : List ℕ) (a : ℕ) (s : Bool) (p : MapBytes n m) (w : Within n a) where
-  pub put_takes : (m' : List ℕ) (r : Outcome) → Puts n m a (want s) m' r → Takes n m (signed s a ∷ []) m' (not (is_clash r))
+  -- what holding comes to where putting comes to such
+  abbrev pub held : Outcome → Result Unit Clash
+  held (Err e) = Err e
+  held (Ok _) = Ok tt
+
+  pub put_takes : (m' : List ℕ) (r : Outcome) → Puts n m a (want s) m' r → Takes n m (signed s a ∷ []) m' (held r)
   put_takes m' r q =
       record { kept = kept_put n m a (want s) p w (want_side s) m' r q; took = by r q.put }
     where
-      by : (x : Outcome) → Put n m a (want s) m' x → Took n m (signed s a ∷ []) m' (not (is_clash x))
-      by Clash (e, other) = λ X u. step X u (sides (side n m a) ((proper_map n m p).sides a) s)
+      by : (x : Outcome) → Put n m a (want s) m' x → Took n m (signed s a ∷ []) m' (held x)
+      by (Err _) (e, other) = λ X u. step X u (sides (side n m a) ((proper_map n m p).sides a) s)
         where
           step :
               (X : Map) → Over (side n m) (signed s a ∷ []) X → (side n m a ≡ 0) ⊎ ((side n m a ≡ want s) ⊎ (side n m a ≡ want (not s))) → ⊥
           step X u (inl z) = other.1 z
           step X u (inr (inl z)) = other.0 z
           step X u (inr (inr z)) = want_apart s (sym (over_at s a u) ∙ u.above.keeps (not s) a z)
-      by Same (e, z) = (
+      by (Ok false) (e, z) = (
         λ X f.
             let g : side n m ⊑ X = subst (λ (l : List ℕ). side n l ⊑ X) e f in over_one s a g (g.keeps s a z),
         λ X u.
             subst (λ (l : List ℕ). side n l ⊑ X) (sym e) u.above,
       )
-      by Grew (e, z) = (
+      by (Ok true) (e, z) = (
         λ X f. over_written n m a w p.room s z X (subst (λ (l : List ℕ). side n l ⊑ X) e f),
         λ X u. subst (λ (l : List ℕ). side n l ⊑ X) (sym e) (written_over n m a w p.room s z X u),
       )
 
 pub takes_as :
-    {n : ℕ} {m m₁ : List ℕ} {s r : Bool} {a b : ℕ} → a ≡ b → Takes n m (signed s a ∷ []) m₁ r → Takes n m (signed s b ∷ []) m₁ r
+    {n : ℕ} {m m₁ : List ℕ} {s : Bool} {r : Result Unit Clash} {a b : ℕ} → a ≡ b → Takes n m (signed s a ∷ []) m₁ r → Takes n m (signed s b ∷ []) m₁ r
 takes_as {n} {m} {m₁} {s} {r} e t = subst (λ (x : ℕ). Takes n m (signed s x ∷ []) m₁ r) e t
 
 -- some literals and then others
@@ -60,16 +65,15 @@ first_of ps qs X u = record { above = u.above; holds = holding_left X ps qs u.ho
 
 module _ {n : ℕ} {m m₁ : List ℕ} {ps : List Literal} (qs : List Literal) where
   pub takes_both :
-      (b : Bool) → b ≡ true → Takes n m ps m₁ b → {m₂ : List ℕ} (r : Bool) → Takes n m₁ qs m₂ r → Takes n m (ps ++ qs) m₂ r
-  takes_both false e t r u = absurd (false≢true e)
-  takes_both true e t {m₂} r u =
+      Takes n m ps m₁ (Ok tt) → {m₂ : List ℕ} (r : Result Unit Clash) → Takes n m₁ qs m₂ r → Takes n m (ps ++ qs) m₂ r
+  takes_both t {m₂} r u =
       record { kept = kept_trans n m m₁ m₂ t.kept u.kept; took = by r u.took }
     where
       next : (X : Map) → Over (side n m) (ps ++ qs) X → Over (side n m₁) qs X
       next X q = record { above = t.took.1 X (first_of ps qs X q); holds = holding_right X ps qs q.holds }
 
-      by : (x : Bool) → Took n m₁ qs m₂ x → Took n m (ps ++ qs) m₂ x
-      by true (up, down) = (
+      by : (x : Result Unit Clash) → Took n m₁ qs m₂ x → Took n m (ps ++ qs) m₂ x
+      by (Ok _) (up, down) = (
         λ X f.
             let v = up X f in
             let w = t.took.0 X v.above in
@@ -77,13 +81,12 @@ module _ {n : ℕ} {m m₁ : List ℕ} {ps : List Literal} (qs : List Literal) w
         λ X q.
             down X (next X q),
       )
-      by false none = λ X q. none X (next X q)
+      by (Err _) none = λ X q. none X (next X q)
 
-  pub takes_none : (b : Bool) → b ≡ false → Takes n m ps m₁ b → Takes n m (ps ++ qs) m₁ false
-  takes_none true e t = absurd (true≢false e)
-  takes_none false e t = record { kept = t.kept; took = λ X q. t.took X (first_of ps qs X q) }
+  pub takes_none : {e e' : Clash} → Takes n m ps m₁ (Err e) → Takes n m (ps ++ qs) m₁ (Err e')
+  takes_none t = record { kept = t.kept; took = λ X q. t.took X (first_of ps qs X q) }
 
-takes_nil : {n : ℕ} {m : List ℕ} → MapBytes n m → Takes n m [] m true
+takes_nil : {n : ℕ} {m : List ℕ} → MapBytes n m → Takes n m [] m (Ok tt)
 takes_nil {n} {m} p =
     record { kept = kept_refl n m p; took = (λ X f. record { above = f; holds = holding_nil X }, λ X q. q.above) }
 
@@ -92,7 +95,7 @@ pub record Left (c : List ℕ) (n from to : ℕ) (s : Bool) (m₀ m : List ℕ) 
   pub low : from ≤ j
   pub proper : MapBytes n m
   pub whole :
-      (m' : List ℕ) (r : Bool) → Takes n m (map (signed s) (seg_atoms c j to)) m' r
+      (m' : List ℕ) (r : Result Unit Clash) → Takes n m (map (signed s) (seg_atoms c j to)) m' r
       → Takes n m₀ (map (signed s) (seg_atoms c from to)) m' r
 
 module _ (c : List ℕ) (n from to : ℕ) (s : Bool) where
@@ -100,22 +103,22 @@ module _ (c : List ℕ) (n from to : ℕ) (s : Bool) where
   hold_begin m p = record { low = omega arith; proper = p; whole = λ m' r t. t }
 
   module _ (m₀ m : List ℕ) (j : ℕ) (l : Left c n from to s m₀ m j) where
-    pub left_end : to ≤ j → Takes n m₀ (map (signed s) (seg_atoms c from to)) m true
+    pub left_end : to ≤ j → Takes n m₀ (map (signed s) (seg_atoms c from to)) m (Ok tt)
     left_end h =
         l.whole
         m
-        true
+        (Ok tt)
         (subst
-        (λ (ls : List Weighted). Takes n m (map (signed s) (atoms_of ls)) m true)
+        (λ (ls : List Weighted). Takes n m (map (signed s) (atoms_of ls)) m (Ok tt))
         (sym (seg_done c j to h))
         (takes_nil l.proper))
 
     -- one pair more
-    module _ (h : j < to) (a : ℕ) (e : a ≡ pair_atom c j) (m₁ : List ℕ) (r : Bool) (t : Takes n m (signed s a ∷ []) m₁ r) where
+    module _ (h : j < to) (a : ℕ) (e : a ≡ pair_atom c j) (m₁ : List ℕ) where
       rest : List Literal
       rest = map (signed s) (seg_atoms c (j + 1) to)
 
-      onward : (m' : List ℕ) (x : Bool) → Takes n m (signed s a ∷ rest) m' x → Takes n m₀ (map (signed s) (seg_atoms c from to)) m' x
+      onward : (m' : List ℕ) (x : Result Unit Clash) → Takes n m (signed s a ∷ rest) m' x → Takes n m₀ (map (signed s) (seg_atoms c from to)) m' x
       unfolding rest
       onward m' x u =
           l.whole
@@ -126,14 +129,15 @@ module _ (c : List ℕ) (n from to : ℕ) (s : Bool) where
           (sym (seg_next c j to h))
           (subst (λ (y : ℕ). Takes n m (signed s y ∷ rest) m' x) e u))
 
-      pub left_next : r ≡ true → Left c n from to s m₀ m₁ (j + 1)
+      pub left_next : Takes n m (signed s a ∷ []) m₁ (Ok tt) → Left c n from to s m₀ m₁ (j + 1)
       unfolding rest
-      left_next q =
+      left_next t =
           record {
             low = omega (arith, l.low);
             proper = t.kept.proper;
-            whole = λ m' x u. onward m' x (takes_both rest r q t x u);
+            whole = λ m' x u. onward m' x (takes_both rest t x u);
           }
 
-      pub left_clash : r ≡ false → Takes n m₀ (map (signed s) (seg_atoms c from to)) m₁ false
-      left_clash q = onward m₁ false (takes_none rest r q t)
+      pub left_clash :
+          {e e' : Clash} → Takes n m (signed s a ∷ []) m₁ (Err e) → Takes n m₀ (map (signed s) (seg_atoms c from to)) m₁ (Err e')
+      left_clash {e' = e'} t = onward m₁ (Err e') (takes_none rest t)

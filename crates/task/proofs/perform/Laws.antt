@@ -28,43 +28,43 @@ use Rattle.gate.specs.declared.Task.{Task}
 use Rattle.gate.specs.declared.Task.TheVariants.{Stay, Open, Pin, Solve, Test, Rule as RuleTask}
 use Rattle.weigh.proofs.Steps.{kept_trans}
 use Rattle.weigh.proofs.Bytes.{blank_proper, blank_side}
-use Rattle.forcing.specs.Inner.Rounds.{ClosedAs, ClosesMap}
-use Rattle.forcing.specs.declared.Closing.{Closing}
-use Rattle.forcing.specs.declared.Closing.TheVariants.{NoneHolds, ClosedWith}
+use Rattle.forcing.specs.Inner.Rounds.{ClosesMap}
+use Rattle.std.specs.Prelude.{Some, None, Result, Ok, Err, is_ok}
+use Rattle.weigh.specs.declared.Clash.{Clash}
 use Rattle.search.specs.Inner.Search.{Standing, FirstIn, Answers}
 use Rattle.task.specs.Inner.Copy.{Copied}
 use Rattle.task.specs.Inner.Hold.{Takes}
-use Rattle.task.specs.Inner.Perform.{answer, ClosedFor, Finishes, Searches, Comes, Performs, Told, Tells, item_from}
+use Rattle.task.specs.Inner.Perform.{answer, ClosedFor, Finishes, Searches, Comes, Performs, Told, Tells, item_from, model_from}
 use Rattle.task.specs.declared.Answer.{Answer}
 use Rattle.task.proofs.bytes.Laws.{copied_side}
 
 -- closing as it is answered
 module _ {c : List ℕ} {n count : ℕ} {m m' : List ℕ} where
   pub closed_none :
-      {x : Closing} {a : Answer} → ClosesMap c n count m m' x → x ≡ NoneHolds → a ≡ answer n false 0
+      {e : Clash} {a : Answer} → ClosesMap c n count m m' (Err e) → a ≡ answer n false 0
       → Finishes (table_sheet c n count) (λ X. side n m ⊑ X) m m' a
-  closed_none k e is =
+  closed_none k is =
       subst
       (Finishes (table_sheet c n count) (λ X. side n m ⊑ X) m m')
       (sym is)
-      (record { atoms = refl; kept = k.kept; closed = subst (ClosedAs c n count m m') e k.answers })
+      (record { atoms = refl; kept = k.kept; closed = k.answers })
 
   pub closed_with :
-      {x : Closing} {a : Answer} (u : ℕ) → ClosesMap c n count m m' x → x ≡ ClosedWith u → a ≡ answer n true u
+      {a : Answer} (u : ℕ) → ClosesMap c n count m m' (Ok u) → a ≡ answer n true u
       → Finishes (table_sheet c n count) (λ X. side n m ⊑ X) m m' a
-  closed_with u k e is =
+  closed_with u k is =
       subst
       (Finishes (table_sheet c n count) (λ X. side n m ⊑ X) m m')
       (sym is)
-      (record { atoms = refl; kept = k.kept; closed = subst (ClosedAs c n count m m') e k.answers })
+      (record { atoms = refl; kept = k.kept; closed = k.answers })
 
 -- held, and then closed
 module _ (sh : Sheet) {m m₁ : List ℕ} {ps : List Literal} where
   pub held_closed :
-      (b : Bool) → b ≡ true → Takes sh.atoms m ps m₁ b → {m₂ : List ℕ} (a : Answer)
+      (r : Result Unit Clash) → is_ok r ≡ true → Takes sh.atoms m ps m₁ r → {m₂ : List ℕ} (a : Answer)
       → Finishes sh (λ X. side sh.atoms m₁ ⊑ X) m₁ m₂ a → Finishes sh (Over (side sh.atoms m) ps) m m₂ a
-  held_closed false e t a f = absurd (false≢true e)
-  held_closed true e t {m₂} a f =
+  held_closed (Err _) e t a f = absurd (false≢true e)
+  held_closed (Ok _) e t {m₂} a f =
       record {
         atoms = f.atoms;
         kept = kept_trans sh.atoms m m₁ m₂ t.kept f.kept;
@@ -79,10 +79,10 @@ module _ (sh : Sheet) {m m₁ : List ℕ} {ps : List Literal} where
       by false none = contradiction_same (λ X. side sh.atoms m₁ ⊑ X) (Over (side sh.atoms m) ps) t.took.1 none
 
   pub held_none :
-      (b : Bool) → b ≡ false → Takes sh.atoms m ps m₁ b → {a : Answer} → a ≡ answer sh.atoms false 0
+      (r : Result Unit Clash) → is_ok r ≡ false → Takes sh.atoms m ps m₁ r → {a : Answer} → a ≡ answer sh.atoms false 0
       → Finishes sh (Over (side sh.atoms m) ps) m m₁ a
-  held_none true e t is = absurd (true≢false e)
-  held_none false e t is =
+  held_none (Ok _) e t is = absurd (true≢false e)
+  held_none (Err _) e t is =
       subst
       (Finishes sh (Over (side sh.atoms m) ps) m m₁)
       (sym is)
@@ -122,23 +122,29 @@ module _ {c : List ℕ} {n count : ℕ} (laid : Laid c n count) where
 
     pub opened_stands : a.found ≡ true → Standing c n count opened
     opened_stands e =
-        record { laid = laid; proper = f.kept.proper; closed = (least e).closed; held = (least e).holding }
+        record { proper = f.kept.proper; closed = (least e).closed; held = (least e).holding }
 
     pub searched :
-        a.found ≡ true → (model : Bool) {map w w' : List ℕ} {r : Answer} → Answers c n count opened model map → Copied n map w w'
-        → r ≡ answer n model 0 → Searches sh w w' r
-    searched e model {map} {w} {w'} {r} an k q =
+        a.found ≡ true → {map w w' : List ℕ} {r : Answer} → Answers c n count opened (Some map) → Copied n map w w'
+        → r ≡ answer n true 0 → Searches sh w w' r
+    searched e {map} {w} {w'} {r} an k q =
         subst
         (Searches sh w w')
         (sym q)
-        (record { atoms = refl; long = k.written.long; first = by model an.answer })
+        (record { atoms = refl; long = k.written.long; first = by an.answer })
       where
-        by : (b : Bool) → FirstIn n (ModelOver sh (side n opened)) b map → FirstIn n (Model sh) b w'
-        by true (first, whole) = (
+        by : FirstIn n (ModelOver sh (side n opened)) (Some map) → FirstIn n (Model sh) (Some w')
+        by (first, whole) = (
           subst (λ (M : Map). First sh (is 1 M)) (copied_side n map w w' k) (first_above ok (least e) first),
           λ i h. subst (Within 2) (sym (k.bytes i h)) (whole i h),
         )
-        by false none = λ X md. none X (all_above ok (least e) X md)
+
+    -- or the search finds none
+    pub searched_none :
+        a.found ≡ true → {w : List ℕ} {r : Answer} → Answers c n count opened None → r ≡ answer n false 0 → Searches sh w w r
+    searched_none e {w} {r} an q =
+        subst (Searches sh w w) (sym q)
+        (record { atoms = refl; long = refl; first = λ X md. an.answer X (all_above ok (least e) X md) })
 
     pub not_searched : a.found ≡ false → {w : List ℕ} → Searches sh w w a
     not_searched e {w} =
@@ -147,7 +153,7 @@ module _ {c : List ℕ} {n count : ℕ} (laid : Laid c n count) where
           long = refl;
           first =
               subst
-              (λ (b : Bool). FirstIn n (Model sh) b w)
+              (λ (b : Bool). FirstIn n (Model sh) (model_from b w))
               (sym e)
               (none_at_all
               ok
