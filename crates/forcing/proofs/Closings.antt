@@ -35,11 +35,6 @@ pub record Closes (c : List ℕ) (n count : ℕ) (m m' : List ℕ) : Type 0 wher
   pub kept : Kept n m m'
   pub forces : Forces (Closed (table_rules c count) n) (side n m) (side n m')
 
--- a step that added something is not quiet for anything
-pub loud_any :
-    (Good : Map → Type 0) (n : ℕ) (Q Q' : Map → Type 0) (m m' : List ℕ) → Step Good n Q m m' (Ok true) → Step Good n Q' m m' (Ok true)
-loud_any Good n Q Q' m m' s = record { kept = s.kept; went = s.went }
-
 -- two steps of which the first adds nothing
 pub after_same :
     (Good : Map → Type 0) (n : ℕ) (Q Q' : Map → Type 0) (m m' m'' : List ℕ) (q : Outcome) → Step Good n Q m m' (Ok false)
@@ -142,42 +137,6 @@ module _ (c : List ℕ) (n count : ℕ) where
       (λ x. all_closed laid m p ((x.1, x.0.0), x.0.1))
       (after_same (Closed (table_rules c count) n) n (λ M. BackedAll c count M × FoundedAll c n count M) Settling m m₂ m₃ q
       (round_second m m₁ m₂ (Ok false) t u) s)
-
-  -- rounds until none adds anything
-  module _ (m : List ℕ) where
-    pub closes_begin : MapBytes n m → Closes c n count m m
-    closes_begin p = record { kept = kept_refl n m p; forces = forces_refl (Closed (table_rules c count) n) (side n m) }
-
-    pub closes_more :
-        (m' m'' : List ℕ) → Closes c n count m m' → Forcing c n count (Closed (table_rules c count) n) m' m'' (Ok true)
-        → Closes c n count m m'' × (undecided n m'' < undecided n m')
-    closes_more m' m'' f s = (
-      record {
-        kept = kept_trans n m m' m'' f.kept s.kept;
-        forces = forces_trans (Closed (table_rules c count) n) f.forces
-            s.went.forces;
-      },
-      s.went.fewer,
-    )
-
-    pub closes_none :
-        (m' m'' : List ℕ) {e e' : Clash} → Closes c n count m m' → Forcing c n count (Closed (table_rules c count) n) m' m'' (Err e)
-        → ClosesMap c n count m m'' (Err e')
-    closes_none m' m'' f s =
-        record { kept = kept_trans n m m' m'' f.kept s.kept; answers = λ X x h. s.went.none X x (f.forces.sound X x h) }
-
-    pub closes_with :
-        (m' m'' : List ℕ) (k : ℕ) → Closes c n count m m' → Forcing c n count (Closed (table_rules c count) n) m' m'' (Ok false)
-        → k ≡ undecided n m'' → ClosesMap c n count m m'' (Ok k)
-    closes_with m' m'' k f s u =
-        record {
-          kept = kept_trans n m m' m'' f.kept s.kept;
-          answers = (
-            subst (λ (x : List ℕ). Least (Closed (table_rules c count) n) (λ X. side n m ⊑ X) (side n x)) (sym s.went.0)
-                (record { closed = s.went.1; holding = f.forces.keeps; below = λ X x h. f.forces.sound X x h }),
-            u,
-          );
-        }
 
 -- the zero bytes are counted
 one_or_none : (b : Bool) (k : ℕ) → counted b 1 + k ≡ cond b (1 + k) k

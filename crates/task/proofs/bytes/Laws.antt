@@ -63,7 +63,3 @@ pub copied_undecided :
     (n : ℕ) (from m m' : List ℕ) → Room n from → Room n m → Copied n from m m' → undecided n from ≡ undecided n m'
 copied_undecided n from m m' source target k =
     undecided_same n from m' source (omega (arith, k.written.long, target)) (λ i h. sym (k.bytes i h))
-
-pub copied_proper : {n : ℕ} {m start w : List ℕ} → MapBytes n m → Copied n m start w → n ≤ length start → MapBytes n w
-copied_proper p k room =
-    record { room = omega (arith, k.written.long, room); sides = λ i h. omega (arith, k.bytes i h, p.sides i h) }

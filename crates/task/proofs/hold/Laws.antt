@@ -55,10 +55,6 @@ module _ (n : ℕ) (m : List ℕ) (a : ℕ) (s : Bool) (p : MapBytes n m) (w : W
         λ X u. subst (λ (l : List ℕ). side n l ⊑ X) (sym e) (written_over n m a w p.room s z X u),
       )
 
-pub takes_as :
-    {n : ℕ} {m m₁ : List ℕ} {s : Bool} {r : Result Unit Clash} {a b : ℕ} → a ≡ b → Takes n m (signed s a ∷ []) m₁ r → Takes n m (signed s b ∷ []) m₁ r
-takes_as {n} {m} {m₁} {s} {r} e t = subst (λ (x : ℕ). Takes n m (signed s x ∷ []) m₁ r) e t
-
 -- some literals and then others
 first_of : {M : Map} (ps qs : List Literal) (X : Map) → Over M (ps ++ qs) X → Over M ps X
 first_of ps qs X u = record { above = u.above; holds = holding_left X ps qs u.holds }
@@ -99,9 +95,6 @@ pub record Left (c : List ℕ) (n from to : ℕ) (s : Bool) (m₀ m : List ℕ) 
       → Takes n m₀ (map (signed s) (seg_atoms c from to)) m' r
 
 module _ (c : List ℕ) (n from to : ℕ) (s : Bool) where
-  pub hold_begin : (m : List ℕ) → MapBytes n m → Left c n from to s m m from
-  hold_begin m p = record { low = omega arith; proper = p; whole = λ m' r t. t }
-
   module _ (m₀ m : List ℕ) (j : ℕ) (l : Left c n from to s m₀ m j) where
     pub left_end : to ≤ j → Takes n m₀ (map (signed s) (seg_atoms c from to)) m (Ok tt)
     left_end h =

@@ -38,66 +38,10 @@ use Rattle.task.specs.Inner.Perform.{answer, ClosedFor, Finishes, Searches, Come
 use Rattle.task.specs.declared.Answer.{Answer}
 use Rattle.task.proofs.bytes.Laws.{copied_side}
 
--- closing as it is answered
-module _ {c : List ℕ} {n count : ℕ} {m m' : List ℕ} where
-  pub closed_none :
-      {e : Clash} {a : Answer} → ClosesMap c n count m m' (Err e) → a ≡ answer n false 0
-      → Finishes (table_sheet c n count) (λ X. side n m ⊑ X) m m' a
-  closed_none k is =
-      subst
-      (Finishes (table_sheet c n count) (λ X. side n m ⊑ X) m m')
-      (sym is)
-      (record { atoms = refl; kept = k.kept; closed = k.answers })
-
-  pub closed_with :
-      {a : Answer} (u : ℕ) → ClosesMap c n count m m' (Ok u) → a ≡ answer n true u
-      → Finishes (table_sheet c n count) (λ X. side n m ⊑ X) m m' a
-  closed_with u k is =
-      subst
-      (Finishes (table_sheet c n count) (λ X. side n m ⊑ X) m m')
-      (sym is)
-      (record { atoms = refl; kept = k.kept; closed = k.answers })
-
--- held, and then closed
-module _ (sh : Sheet) {m m₁ : List ℕ} {ps : List Literal} where
-  pub held_closed :
-      (r : Result Unit Clash) → is_ok r ≡ true → Takes sh.atoms m ps m₁ r → {m₂ : List ℕ} (a : Answer)
-      → Finishes sh (λ X. side sh.atoms m₁ ⊑ X) m₁ m₂ a → Finishes sh (Over (side sh.atoms m) ps) m m₂ a
-  held_closed (Err _) e t a f = absurd (false≢true e)
-  held_closed (Ok _) e t {m₂} a f =
-      record {
-        atoms = f.atoms;
-        kept = kept_trans sh.atoms m m₁ m₂ t.kept f.kept;
-        closed = by a.found f.closed;
-      }
-    where
-      by :
-          (x : Bool) → ClosedFor sh (λ X. side sh.atoms m₁ ⊑ X) m₂ x a.number
-          → ClosedFor sh (Over (side sh.atoms m) ps) m₂ x a.number
-      by true (l, k) =
-          (least_same (λ X. side sh.atoms m₁ ⊑ X) (Over (side sh.atoms m) ps) t.took.0 t.took.1 l, k)
-      by false none = contradiction_same (λ X. side sh.atoms m₁ ⊑ X) (Over (side sh.atoms m) ps) t.took.1 none
-
-  pub held_none :
-      (r : Result Unit Clash) → is_ok r ≡ false → Takes sh.atoms m ps m₁ r → {a : Answer} → a ≡ answer sh.atoms false 0
-      → Finishes sh (Over (side sh.atoms m) ps) m m₁ a
-  held_none (Ok _) e t is = absurd (true≢false e)
-  held_none (Err _) e t is =
-      subst
-      (Finishes sh (Over (side sh.atoms m) ps) m m₁)
-      (sym is)
-      (record { atoms = refl; kept = t.kept; closed = λ X x q. t.took X q })
-
 -- on a blank map nothing but the literals is asked for
 pub blank_below : (n : ℕ) → n ≤ atoms_most → (X : Map) → side n blank ⊑ X
 blank_below n h X =
     record { keeps = λ s a e. absurd (want_decided s (sym e ∙ blank_side atoms_most n h a)) }
-
-pub blank_fits : {n : ℕ} {w : List ℕ} → w ≡ blank → n ≤ atoms_most → MapBytes n w
-blank_fits {n} e few = subst (MapBytes n) (sym e) (blank_proper atoms_most n few)
-
-pub whole_map : {n : ℕ} {m : List ℕ} → Room n m → Whole n m → MapBytes n m
-whole_map room whole = record { room = room; sides = λ i h. (whole i h).high }
 
 -- the models above the opened map are all that agree
 module _ {c : List ℕ} {n count : ℕ} (laid : Laid c n count) where
@@ -119,10 +63,6 @@ module _ {c : List ℕ} {n count : ℕ} (laid : Laid c n count) where
         (λ X q. q.holds)
         held
         (subst (λ (b : Bool). ClosedFor sh (Over (side n blank) (computed sh)) opened b a.number) e f.closed).0
-
-    pub opened_stands : a.found ≡ true → Standing c n count opened
-    opened_stands e =
-        record { proper = f.kept.proper; closed = (least e).closed; held = (least e).holding }
 
     pub searched :
         a.found ≡ true → {map w w' : List ℕ} {r : Answer} → Answers c n count opened (Some map) → Copied n map w w'
@@ -197,9 +137,6 @@ module _ (sh : Sheet) (r : Rule) (m : List ℕ) {t : Task} {w w' : List ℕ} {a 
           (least_same (Over (side sh.atoms w) (computed sh)) (Holding (computed sh)) (λ X q. q.holds) held l, k)
       by false none = contradiction_same (Over (side sh.atoms w) (computed sh)) (Holding (computed sh)) held none
 
-  pub performs_solve : t ≡ Solve → Searches sh w w' a → Performs sh r m t w w' a
-  performs_solve e f = by_task e f.atoms f.long f.first
-
   -- on a copy of the lent map
   module _ {w₁ : List ℕ} (k : Copied sh.atoms m w w₁) where
     pub performs_pin :
@@ -210,21 +147,8 @@ module _ (sh : Sheet) (r : Rule) (m : List ℕ) {t : Task} {w w' : List ℕ} {a 
     pub performs_test : t ≡ Test → Finishes sh (Over (side sh.atoms w₁) (computed sh)) w₁ w' a → Performs sh r m t w w' a
     performs_test e f = by_task e f.atoms (f.kept.long ∙ k.written.long) (copied_over sh k (computed sh) f)
 
-pub performs_stay :
-    (sh : Sheet) (r : Rule) (m : List ℕ) {t : Task} {w : List ℕ} {a : Answer} → t ≡ Stay → a ≡ answer sh.atoms false 0
-    → Performs sh r m t w w a
-performs_stay sh r m {t} {w} e is = subst (Performs sh r m t w w) (sym is) (by_task sh r m e refl refl refl)
-
-pub performs_rule :
-    (sh : Sheet) (r : Rule) (m : List ℕ) {t : Task} {w : List ℕ} {a : Answer} (rule : RuleNo) (ask : Ask) → t ≡ RuleTask rule ask
-    → Told r sh.atoms (side sh.atoms m) ask a → Performs sh r m t w w a
-performs_rule sh r m rule ask e f = by_task sh r m e f.atoms refl f.tells
-
 -- what is asked of a rule
 module _ (r : Rule) (n : ℕ) (M : Map) where
-  pub told_margin : {ask : Ask} (a : Answer) → ask ≡ Margin → a.atoms ≡ n → a.margin ≡ margin r M → Told r n M ask a
-  told_margin a is atoms h = record { atoms = atoms; tells = subst (λ (x : Ask). Tells r M x a) (sym is) h }
-
   module _ {ask : Ask} (p i : ℕ) (is : ask ≡ Part p i) {x : Item} (h : x ≡ part_of r p i) where
     told : (b : Bool) (number : ℕ) {a : Answer} → x ≡ item_from b number → a ≡ answer n b number → Told r n M ask a
     told b number {a} q g =
@@ -232,9 +156,3 @@ module _ (r : Rule) (n : ℕ) (M : Map) where
         (Told r n M ask)
         (sym g)
         (record { atoms = refl; tells = subst (λ (y : Ask). Tells r M y (answer n b number)) (sym is) (sym q ∙ h) })
-
-    pub told_part : (number : ℕ) {a : Answer} → x ≡ Is number → a ≡ answer n true number → Told r n M ask a
-    told_part number q g = told true number q g
-
-    pub told_nothing : {a : Answer} → x ≡ Nothing → a ≡ answer n false 0 → Told r n M ask a
-    told_nothing q g = told false 0 q g
