@@ -11,14 +11,14 @@ use super::heads::settle_all;
 use super::support::{back_all, count_all};
 use rules::Atom;
 use table::Table;
-use weigh::Clash;
+use weigh::{Clash, IN, OPEN};
 
-// How many bytes are 0.
+// How many bytes are of an undecided atom.
 fn zeros(bytes: &[u8]) -> usize
     ensures few { result ≤ length bytes.now }
     ensures counted { result ≡ count_by (λ x. x == 0) bytes.now }
 {
-    bytes.iter().filter(|x| **x == 0).count()
+    bytes.iter().filter(|x| **x == OPEN).count()
 }
 
 // How many of the n atoms are undecided.
@@ -47,7 +47,7 @@ pub fn lowest(m: &[u8], n: u32) -> Option<u32>
     requires { Room n m.now }
     ensures { LowestAt n m.now result }
 {
-    first_with(m, n, 0)
+    first_with(m, n, OPEN)
 }
 
 // Forcing rule 2 at every rule: nothing where no atom is in, every atom is decided, or no atom has one rule.
@@ -55,7 +55,7 @@ fn back_round(t: &Table, m: &mut [u8]) -> Result<bool, Clash>
     requires { MapBytes t.now.atoms m.old }
     ensures { Forcing t.now.code.now t.now.atoms t.now.rules (BackedAll t.now.code.now t.now.rules) m.old m.new result }
 {
-    if first_with(m, t.atoms, 1).is_none() {
+    if first_with(m, t.atoms, IN).is_none() {
         return Ok(false);
     }
     let first_open = lowest(m, t.atoms);

@@ -17,6 +17,13 @@ pub use press::{press_body, side_for};
 pub use step::put;
 use table::TableRow;
 
+// The sides of an atom: bytes, since a map is bytes that a call is lent ("A map has one byte for each atom").
+pub const OPEN: u8 = 0;
+
+pub const IN: u8 = 1;
+
+pub const OUT: u8 = 2;
+
 // No closed map holds the map. A step that finds none such says whether it added something.
 #[derive(Clone, Copy, Debug, PartialEq, Eq)]
 pub struct Clash;
@@ -89,7 +96,7 @@ pub fn sure(row: &TableRow, m: &[u8]) -> u32
     requires { Room row.now.atoms m.now }
     ensures { result ≡ sure (row_rule row.now.code.now row.now.at) (side row.now.atoms m.now) }
 {
-    weigh_rule(row, m, Seen::On(1), m, Seen::On(2))
+    weigh_rule(row, m, Seen::On(IN), m, Seen::On(OUT))
 }
 
 // The weight of a rule's literals that are not false.
@@ -97,7 +104,7 @@ pub fn reach(row: &TableRow, m: &[u8]) -> u32
     requires { Room row.now.atoms m.now }
     ensures { result ≡ reach (row_rule row.now.code.now row.now.at) (side row.now.atoms m.now) }
 {
-    weigh_rule(row, m, Seen::Off(2), m, Seen::Off(1))
+    weigh_rule(row, m, Seen::Off(OUT), m, Seen::Off(IN))
 }
 
 // Reach less need of a rule. Below zero the body can no longer hold.
