@@ -1,5 +1,5 @@
 // Closing a map: the forcing rules, one pass after another, until none adds anything.
-ghost use Rattle.std.specs.Prelude.{◌≤◌, ◌≡◌, ◌==◌, count_by, length};
+ghost use Rattle.std.specs.Prelude.{◌≤◌, ◌≡◌, ◌==◌, count_by, length, position};
 ghost use Rattle.rules.specs.Forcing.{Closed};
 ghost use Rattle.table.specs.Inner.Rows.{table_rules};
 ghost use Rattle.rules.specs.Inner.Bytes.{Room, MapBytes};
@@ -29,21 +29,23 @@ pub fn count_undecided(m: &[u8], n: u32) -> u32
     zeros(&m[..n as usize]) as u32
 }
 
+// The index of the first byte that is v.
+fn first_of(bytes: &[u8], v: u8) -> Option<usize>
+    ensures { result ≡ position (λ x. x == v) bytes.now }
+{
+    bytes.iter().position(|x| *x == v)
+}
+
 // The index of the first of n bytes that is v.
-fn first_with(m: &[u8], n: u32, v: u8) -> Option<u32>
+fn first_with(m: &[u8], n: u32, v: u8) -> Option<usize>
     requires { Room n m.now }
     ensures { FirstWith v n m.now result }
 {
-    for i in 0..n {
-        if m[i as usize] == v {
-            return Some(i);
-        }
-    }
-    None
+    first_of(&m[..n as usize], v)
 }
 
 // The index of the lowest undecided atom.
-pub fn lowest(m: &[u8], n: u32) -> Option<u32>
+pub fn lowest(m: &[u8], n: u32) -> Option<usize>
     requires { Room n m.now }
     ensures { LowestAt n m.now result }
 {
