@@ -20,7 +20,7 @@ use Rattle.weigh.specs.Inner.Step.{Decided, Outcome, Till, Puts}
 use Rattle.weigh.specs.Inner.Press.{PairPressed, PairDue, PairAsks, PressesPair, Presses, aim, Pressed, Due, PressesBody}
 use Rattle.weigh.specs.declared.Clash.{Clash}
 use Rattle.weigh.proofs.Bytes.{proper_map}
-use Rattle.weigh.proofs.Steps.{after, kept_refl, kept_trans, kept_put, concludes_on, step_same, quieter, step_joined, steps_begin, steps_more, steps_end, step_put, clash_any}
+use Rattle.weigh.proofs.Steps.{after, kept_trans, kept_put, concludes_on, quieter, step_joined, steps_more, step_put, clash_any}
 
 -- what is undecided in a map was so in a map below it
 pub undecided_back : (M M' : Map) (a : ℕ) → M a ≤ 2 → M ⊑ M' → M' a ≡ 0 → M a ≡ 0
