@@ -65,6 +65,7 @@ fn back_round(t: &Table, m: &mut [u8]) -> Result<bool, Clash>
     if is_whole {
         return Ok(false);
     }
+    // for the most atoms, since there is no heap
     let mut counts = [0u8; Atom::LAST];
     count_all(t, m, &mut counts);
     if first_with(&counts, t.atoms, 1).is_none() {
@@ -78,6 +79,7 @@ fn drop_round(t: &Table, m: &mut [u8]) -> Result<bool, Clash>
     requires { MapBytes t.now.atoms m.old }
     ensures { Forcing t.now.code.now t.now.atoms t.now.rules (FoundedAll t.now.code.now t.now.atoms t.now.rules) m.old m.new result }
 {
+    // for the most atoms, since there is no heap
     let mut u = [0u8; Atom::LAST];
     founded(t, m, &mut u);
     drop_all(t.atoms, &u, m)

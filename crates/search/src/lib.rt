@@ -1,4 +1,4 @@
-// The search for the first model above a closed map.
+// The search for the first model above a closed map: three functions that call each other, with the map by value at each (document 01).
 #![tactic(auto)]
 
 ghost use Rattle.std.specs.Prelude.{◌+◌};
@@ -10,7 +10,12 @@ use table::Table;
 use weigh::{Clash, side_for};
 
 // The map with the atom at this index put on one side, closed.
-fn guess(t: &Table, map: [u8; Atom::LAST], i: usize, inside: bool) -> Result<[u8; Atom::LAST], Clash>
+fn guess(
+    t: &Table,
+    map: [u8; Atom::LAST],
+    i: usize,
+    inside: bool,
+) -> Result<[u8; Atom::LAST], Clash>
     requires { Open t.now.code.now t.now.atoms t.now.rules map i }
     ensures { Tries t.now.code.now t.now.atoms t.now.rules map (i + 1) inside result }
 {

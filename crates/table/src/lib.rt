@@ -18,10 +18,11 @@ pub const ROW: usize = 5;
 
 pub const PAIR: usize = 2;
 
+#[tactic(auto, unfolding(crate::specs::Inner::Words::word_at))]
 pub fn word(code: &[u32], i: usize) -> u32
     ensures { result ≡ word_at code.now i }
 {
-    if i < code.len() { code[i] } else { 0 }
+    code.get(i).copied().unwrap_or(0)
 }
 
 // The atom of pair j, and the weight of its literal.

@@ -46,7 +46,7 @@ impl Seen {
     }
 }
 
-// The side of atom a, one of n.
+// The side of atom a, one of n. Maps stay plain bytes with n beside them: a call is lent them so, and the search keeps arrays (document 01).
 pub fn side_of(m: &[u8], n: u32, a: u32) -> u8
     requires { Side n a m.now }
     ensures { result ≡ side n m.now a }
@@ -54,7 +54,7 @@ pub fn side_of(m: &[u8], n: u32, a: u32) -> u8
     m[(a - 1) as usize]
 }
 
-// What the literal of pair j counts for: its weight where its atom is seen, else 0.
+// What the literal of pair j counts for: its weight where its atom is seen, else 0. A pair goes by its place, so that of a head no weight is read.
 fn weigh_pair(row: &TableRow, j: u32, m: &[u8], seen: Seen) -> u32
     requires pair { Pair row.now.code.now row.now.atoms j }
     requires room { Room row.now.atoms m.now }
