@@ -26,32 +26,6 @@ use Rattle.forcing.specs.Inner.Support.{supporters, Counts, Scarce, ScarceHead, 
 use Rattle.forcing.proofs.HeadScans.{Sofar, scan_more, scan_end}
 use Rattle.forcing.proofs.Counting.{one_told, told_one_in}
 
--- whether an atom is in and its count is such
-module _ (n : ℕ) (M : Map) (counts : List ℕ) (least a a' : ℕ) (e : a ≡ a') where
-  pub not_held : (x : ℕ) → x ≡ M a → (x ≡ 1 → ⊥) → Decides false (Scarce n M counts least a')
-  not_held x ex f = record { decides = λ s. f (ex ∙ ap M e ∙ s.holds) }
-
-  module _ (k : ℕ) (ek : k ≡ side n counts a) where
-    its_count : k ≡ side n counts a'
-    its_count = ek ∙ ap (side n counts) e
-
-    pub too_few : k < least → Decides false (Scarce n M counts least a')
-    too_few h = record { decides = λ s. omega (arith, its_count, s.low) }
-
-    pub too_many : 1 < k → Decides false (Scarce n M counts least a')
-    too_many h = record { decides = λ s. omega (arith, its_count, s.few) }
-
-    pub held_scarce : (x : ℕ) → x ≡ M a → x ≡ 1 → least ≤ k → k ≤ 1 → Decides true (Scarce n M counts least a')
-    held_scarce x ex h low few =
-        record {
-          decides =
-              record {
-                holds = ap M (sym e) ∙ sym ex ∙ h;
-                low = omega (arith, its_count);
-                few = omega (arith, its_count);
-              };
-        }
-
 module _ (c : List ℕ) (n i : ℕ) (M : Map) (counts : List ℕ) (least : ℕ) where
   -- an atom of which it is not so
   abbrev pub Ample : ℕ → Type 0
@@ -69,10 +43,6 @@ module _ (c : List ℕ) (n i : ℕ) (M : Map) (counts : List ℕ) (least : ℕ) 
               scarce = is_so e t;
             };
       }
-
-  pub scarce_more :
-      (j : ℕ) (b : Bool) → b ≡ false → Decides b (Scarce n M counts least (pair_atom c j)) → Sofar c i Ample j → Sofar c i Ample (j + 1)
-  scarce_more j b e t none = scan_more c i Ample j (not_so e t) none
 
   pub scarce_nowhere : (j : ℕ) → positives_at c i ≤ j → Sofar c i Ample j → Decides false (ScarceHead c n i M counts least)
   scarce_nowhere j b none = record { decides = λ s. scan_end c i Ample j b none s.atom s.head s.scarce }
@@ -114,10 +84,6 @@ module _ (c : List ℕ) (n i : ℕ) (counts m : List ℕ) (proper : MapBytes n m
       })))
 
   module _ (need most : ℕ) (en : need ≡ need_at c i) (er : most ≡ reach (row_rule c i) (side n m)) where
-    pub back_short : most < need → Backs c n i counts m m (Ok false)
-    back_short h =
-        left (λ P k a e o g. absurd (omega (arith, supports_reach a (side n m) (row_rule c i) g, en, er)))
-
     pub back_press :
         (b : Bool) → b ≡ true → Decides b (ScarceHead c n i (side n m) counts 1) → need ≤ most → (m' : List ℕ) (r : Outcome)
         → PressesBody c n i (most - need + 1) true m m' r → Backs c n i counts m m' r

@@ -1,6 +1,6 @@
 -- Where no pass adds anything, each forcing rule holds of the map, so it is closed; and what was added on the way is in every closed
 -- map above the first, so it is the smallest.
-use Prim.Native.Nat.{ℕ, ◌+◌, ◌-◌, ◌<◌}
+use Prim.Native.Nat.{ℕ, ◌+◌, ◌-◌, ◌≤◌, ◌<◌}
 use mathlib.Core.Path.{◌≡◌, refl, sym, ◌∙◌, subst}
 use mathlib.Core.Bool.{Bool, true, false, cond, true≢false}
 use Rattle.std.proofs.lemmas.List.Recursion.{is_count_by}
@@ -8,7 +8,12 @@ use mathlib.Core.List.{List}
 use mathlib.Core.Logic.{⊎_elim}
 use native.Mathlib.Omega.{arith}
 use lib.Dec.{eqb}
-use lib.ListN.{take}
+use lib.ListN.{length, get_or, take}
+use lib.Seq.{length-take-le, get_or-take}
+use borrow.Author.Tests.{eq-eqb, ltb-true, ltb-false}
+use Rattle.std.proofs.lemmas.List.Sums.{fails_before_first, passes_at_first}
+use Rattle.std.specs.List.{position_or_len}
+use Rattle.rules.proofs.Tests.{T_eq, true_T}
 use Rattle.rules.specs.Sum.{counted, tally}
 use Rattle.rules.specs.Rule.{Rule, Within}
 use Rattle.rules.specs.Map.{Map, side, ◌⊑◌, undecided}
@@ -19,7 +24,7 @@ use Rattle.rules.proofs.Bytes.{side_at}
 use Rattle.table.specs.Inner.Rows.{row_rule, table_rules, Laid}
 use Rattle.table.proofs.Rows.{Standing, rule_stands, rule_mem, laid_fits}
 use Rattle.weigh.specs.Inner.Step.{Outcome, Step, Till, Kept, Forces}
-use Rattle.std.specs.Prelude.{Ok, Err, Option, Some, None, is_some, count_by, ◌==◌}
+use Rattle.std.specs.Prelude.{Ok, Err, Option, Some, None, is_some, count_by, position, nat_lt, ◌==◌}
 use Rattle.weigh.specs.declared.Clash.{Clash}
 use Rattle.weigh.proofs.Bytes.{proper_map, equal?}
 use Rattle.weigh.proofs.Steps.{kept_refl, kept_trans, forces_refl, forces_trans, step_same, quieter, step_joined}
@@ -34,11 +39,6 @@ use Rattle.forcing.proofs.Counting.{one_told, only_once}
 pub record Closes (c : List ℕ) (n count : ℕ) (m m' : List ℕ) : Type 0 where
   pub kept : Kept n m m'
   pub forces : Forces (Closed (table_rules c count) n) (side n m) (side n m')
-
--- a step that added something is not quiet for anything
-pub loud_any :
-    (Good : Map → Type 0) (n : ℕ) (Q Q' : Map → Type 0) (m m' : List ℕ) → Step Good n Q m m' (Ok true) → Step Good n Q' m m' (Ok true)
-loud_any Good n Q Q' m m' s = record { kept = s.kept; went = s.went }
 
 -- two steps of which the first adds nothing
 pub after_same :
@@ -143,41 +143,32 @@ module _ (c : List ℕ) (n count : ℕ) where
       (after_same (Closed (table_rules c count) n) n (λ M. BackedAll c count M × FoundedAll c n count M) Settling m m₂ m₃ q
       (round_second m m₁ m₂ (Ok false) t u) s)
 
-  -- rounds until none adds anything
-  module _ (m : List ℕ) where
-    pub closes_begin : MapBytes n m → Closes c n count m m
-    closes_begin p = record { kept = kept_refl n m p; forces = forces_refl (Closed (table_rules c count) n) (side n m) }
+-- the first of the n bytes that is v
+module _ (v n : ℕ) (m : List ℕ) (room : n ≤ length m) where
+  abbrev at : ℕ
+  at = position_or_len (λ x. x == v) (take n m)
 
-    pub closes_more :
-        (m' m'' : List ℕ) → Closes c n count m m' → Forcing c n count (Closed (table_rules c count) n) m' m'' (Ok true)
-        → Closes c n count m m'' × (undecided n m'' < undecided n m')
-    closes_more m' m'' f s = (
+  -- a byte before it is another
+  other : (i : ℕ) → i < n → i < at → get_or m i 0 ≡ v → ⊥
+  other i l h z =
+      true≢false
+      (sym (eq-eqb (get_or (take n m) i 0) v (get_or-take n m i 0 l ∙ z)) ∙ fails_before_first (λ x. x == v) (take n m) i 0 h)
+
+  found : (b : Bool) → nat_lt at (length (take n m)) ≡ b → FirstWith v n m (cond b (Some at) None)
+  found true t =
+      let short : at < length (take n m) = ltb-true at (length (take n m)) t in
+      let inside : at < n = omega (arith, short, length-take-le n m room) in
       record {
-        kept = kept_trans n m m' m'' f.kept s.kept;
-        forces = forces_trans (Closed (table_rules c count) n) f.forces
-            s.went.forces;
-      },
-      s.went.fewer,
-    )
+        inside = inside;
+        lower = λ i h. other i (omega arith) h;
+        here = sym (get_or-take n m at 0 inside) ∙ T_eq (true_T (passes_at_first (λ x. x == v) (take n m) 0 short));
+      }
+  found false t =
+      let long : length (take n m) ≤ at = ltb-false at (length (take n m)) t in
+      λ i h. other i h (omega (arith, h, long, length-take-le n m room))
 
-    pub closes_none :
-        (m' m'' : List ℕ) {e e' : Clash} → Closes c n count m m' → Forcing c n count (Closed (table_rules c count) n) m' m'' (Err e)
-        → ClosesMap c n count m m'' (Err e')
-    closes_none m' m'' f s =
-        record { kept = kept_trans n m m' m'' f.kept s.kept; answers = λ X x h. s.went.none X x (f.forces.sound X x h) }
-
-    pub closes_with :
-        (m' m'' : List ℕ) (k : ℕ) → Closes c n count m m' → Forcing c n count (Closed (table_rules c count) n) m' m'' (Ok false)
-        → k ≡ undecided n m'' → ClosesMap c n count m m'' (Ok k)
-    closes_with m' m'' k f s u =
-        record {
-          kept = kept_trans n m m' m'' f.kept s.kept;
-          answers = (
-            subst (λ (x : List ℕ). Least (Closed (table_rules c count) n) (λ X. side n m ⊑ X) (side n x)) (sym s.went.0)
-                (record { closed = s.went.1; holding = f.forces.keeps; below = λ X x h. f.forces.sound X x h }),
-            u,
-          );
-        }
+  pub first_found : FirstWith v n m (position (λ x. x == v) (take n m))
+  first_found = found (nat_lt at (length (take n m))) refl
 
 -- the zero bytes are counted
 one_or_none : (b : Bool) (k : ℕ) → counted b 1 + k ≡ cond b (1 + k) k

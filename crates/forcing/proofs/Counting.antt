@@ -86,15 +86,6 @@ module _ (n : ℕ) (counts : List ℕ) (a : ℕ) (w : Within n a) (room : n ≤ 
             (λ t. and_T (is 1 M x) (eqb x a) (eq_T (ap M (T_eq t) ∙ e)) t)
             (λ t. T_and_right (is 1 M x) (eqb x a) t)
 
-    pub pair_not_in : (M a ≡ 1 → ⊥) → Adds n (λ x. is 1 M x && eqb x a) counts counts
-    pair_not_in f =
-        record {
-          adds =
-              λ x _.
-              unchanged (side n counts x) (is 1 M x && eqb x a)
-              (λ t. f (ap M (sym (T_eq (T_and_right (is 1 M x) (eqb x a) t))) ∙ T_eq (T_and_left (is 1 M x) (eqb x a) t)));
-        }
-
 -- what is counted only under a test
 under : (b x y z : Bool) → counted x 1 ≡ counted y 1 + counted z 1 → counted (b && x) 1 ≡ counted (b && y) 1 + counted (b && z) 1
 under true x y z e = e
@@ -131,14 +122,6 @@ module _ (c : List ℕ) (n i : ℕ) (row : Row c n i) where
       rest t = simp (ne_eqb a (pair_atom c j) (T_ne t)) (omega arith)
 
   module _ (M : Map) (counts₀ : List ℕ) where
-    pub heading_begin : (j : ℕ) → j ≡ heads_at c i → Heading c n i M counts₀ j counts₀
-    heading_begin j e =
-        record {
-          long = refl;
-          low = omega arith;
-          sofar = λ a w. ap (λ (x : ℕ). up_to_two (side n counts₀ a + counted (is 1 M a && has a (seg_atoms c x (positives_at c i))) 1)) e;
-        }
-
     pub heading_more :
         (j : ℕ) (counts counts' : List ℕ) → j < positives_at c i → length counts' ≡ length counts → Heading c n i M counts₀ j counts
         → Adds n (λ a. is 1 M a && eqb a (pair_atom c j)) counts counts' → Heading c n i M counts₀ (j + 1) counts'

@@ -74,20 +74,6 @@ blank_below : (n : ℕ) (u : List ℕ) → Blank n u → (X : Map) → side n u 
 blank_below n u b X = record { keeps = λ s a e. absurd (want_decided s (sym e ∙ b.blank a)) }
 
 module _ (c : List ℕ) (n count : ℕ) (m u : List ℕ) where
-  pub founding_begin : MapBytes n u → Founding c n count m u u
-  founding_begin p = record { kept = kept_refl n u p; forces = forces_refl (Grounding (table_rules c count) (side n m)) (side n u) }
-
-  pub founding_more :
-      (u' u'' : List ℕ) → Founding c n count m u u' → GroundsAll c n count m u' u'' (Ok true)
-      → Founding c n count m u u'' × (undecided n u'' < undecided n u')
-  founding_more u' u'' f s = (
-    record {
-      kept = kept_trans n u u' u'' f.kept s.kept;
-      forces = forces_trans (Grounding (table_rules c count) (side n m)) f.forces s.went.forces;
-    },
-    s.went.fewer,
-  )
-
   module _ (b : Blank n u) where
     below : (u' : List ℕ) → Founding c n count m u u' → (X : Map) → Grounding (table_rules c count) (side n m) X → side n u' ⊑ X
     below u' f X x = f.forces.sound X x (blank_below n u b X)
@@ -128,9 +114,6 @@ module _ (c : List ℕ) (n count : ℕ) (m u : List ℕ) where
 
 -- dropping the atoms that are not in U
 module _ (n : ℕ) (u m : List ℕ) (p : MapBytes n m) where
-  pub drop_begin : Drops n u m 1 m (Ok false)
-  drop_begin = record { kept = kept_refl n m p; step = λ P due. steps_begin (Closed P n) n (λ b. Unless (side n u) b 1 2) 1 m p }
-
   pub drop_more :
       (a : ℕ) (m' m'' : List ℕ) (r : Bool) (q : Outcome) → 1 ≤ a → a ≤ n → Drops n u m a m' (Ok r) → PutsUnless n u a 1 2 m' m'' q
       → Drops n u m (a + 1) m'' (after r q)
@@ -158,14 +141,6 @@ module _ (n : ℕ) (u m : List ℕ) (p : MapBytes n m) where
             λ P due.
             clash_any (Closed P n) n (Till (λ x. Unless (side n u) x 1 2) 1 a) (Till (λ x. Unless (side n u) x 1 2) 1 b) m m'
             (s.step P due);
-      }
-
-  pub drop_end : (a : ℕ) (m' : List ℕ) (r : Outcome) → n ≤ a → Drops n u m (a + 1) m' r → Drops n u m (n + 1) m' r
-  drop_end a m' r h s =
-      record {
-        kept = s.kept;
-        step = λ P due. steps_end (Closed P n) n (λ x. Unless (side n u) x 1 2) 1 (n + 1) (a + 1) m m' r
-            (omega arith) (s.step P due);
       }
 
 -- an atom that is not in U is out in every closed map

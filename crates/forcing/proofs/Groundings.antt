@@ -32,13 +32,6 @@ sided_out = record { low = omega arith; high = omega arith }
 
 -- an atom is put unless it has a given side
 module _ (n : ℕ) (m : List ℕ) (a given v : ℕ) (w : List ℕ) where
-  pub unless_there : (x : ℕ) → x ≡ side n m a → x ≡ given → PutsUnless n m a given v w w (Ok false)
-  unless_there x ex e = record { there = λ _. (refl, refl); elsewhere = λ f. absurd (f (sym ex ∙ e)) }
-
-  pub unless_put :
-      (x : ℕ) (w' : List ℕ) (r : Outcome) → x ≡ side n m a → (x ≡ given → ⊥) → Puts n w a v w' r → PutsUnless n m a given v w w' r
-  unless_put x w' r ex f s = record { there = λ e. absurd (f (ex ∙ e)); elsewhere = λ _. s }
-
   module _ (p : MapBytes n w) (in-n : Within n a) (d : Decided v) (w' : List ℕ) (r : Outcome)
       (s : PutsUnless n m a given v w w' r) where
     pub kept_unless : Kept n w w'
@@ -64,19 +57,6 @@ module _ (n : ℕ) (m : List ℕ) (a given v : ℕ) (w : List ℕ) where
 
 -- the heads of a rule, one after another
 module _ (c : List ℕ) (n i : ℕ) (m u : List ℕ) (row : Row c n i) (space : MapBytes n u) where
-  pub heads_begin : (j : ℕ) → j ≡ heads_at c i → GroundsHeads c n i m u j u (Ok false)
-  heads_begin j e =
-      record {
-        kept = kept_refl n u space;
-        step =
-            λ P due.
-            subst
-            (λ (x : ℕ). Step (Grounding P (side n m)) n (Till (λ k. Unless (side n m) (pair_atom c k) 2 1) (heads_at c i) x) u u
-            (Ok false))
-            (sym e)
-            (steps_begin (Grounding P (side n m)) n (λ k. Unless (side n m) (pair_atom c k) 2 1) (heads_at c i) u space);
-      }
-
   pub heads_more :
       (j a : ℕ) (u' u'' : List ℕ) (r : Bool) (q : Outcome) → heads_at c i ≤ j → j < positives_at c i → a ≡ pair_atom c j
       → GroundsHeads c n i m u j u' (Ok r) → PutsUnless n m a 2 1 u' u'' q → GroundsHeads c n i m u (j + 1) u'' (after r q)
@@ -114,18 +94,6 @@ module _ (c : List ℕ) (n i : ℕ) (m u : List ℕ) (row : Row c n i) (space : 
             (Till (λ k. Unless (side n m) (pair_atom c k) 2 1) (heads_at c i) (positives_at c i)) u u' (s.step P due);
       }
 
-  pub heads_end :
-      (j : ℕ) (u' : List ℕ) (r : Outcome) → positives_at c i ≤ j → GroundsHeads c n i m u j u' r
-      → GroundsHeads c n i m u (positives_at c i) u' r
-  heads_end j u' r h s =
-      record {
-        kept = s.kept;
-        step =
-            λ P due.
-            steps_end (Grounding P (side n m)) n (λ k. Unless (side n m) (pair_atom c k) 2 1) (heads_at c i) (positives_at c i) j u
-            u' r h (s.step P due);
-      }
-
   -- every head by its place
   by_place :
       (U : Map) → ((k : ℕ) → heads_at c i ≤ k → k < positives_at c i → Unless (side n m) (pair_atom c k) 2 1 U) → Full (row_rule c i)
@@ -134,33 +102,13 @@ module _ (c : List ℕ) (n i : ℕ) (m u : List ℕ) (row : Row c n i) (space : 
       let l : AtomFound c (heads_at c i) (positives_at c i) a = atoms_listed c (heads_at c i) (positives_at c i) a t in
       ap U l.same ∙ all l.at l.among.low l.among.high (λ e. f (ap (side n m) l.same ∙ e))
 
-  pub lacks_more :
-      (j : ℕ) (b : Bool) → b ≡ false → Misses (side n m) (side n u) (pair_atom c j) b
-      → Sofar c i (λ a. Unless (side n m) a 2 1 (side n u)) j → Sofar c i (λ a. Unless (side n m) a 2 1 (side n u)) (j + 1)
-  lacks_more j b e t all =
-      scan_more c i (λ a. Unless (side n m) a 2 1 (side n u)) j
-      (subst (Misses (side n m) (side n u) (pair_atom c j)) e t).tells all
-
   pub lacks_none :
       (j : ℕ) → positives_at c i ≤ j → Sofar c i (λ a. Unless (side n m) a 2 1 (side n u)) j
       → Lacks (row_rule c i) (side n m) (side n u) false
   lacks_none j h all = record { tells = scan_end c i (λ a. Unless (side n m) a 2 1 (side n u)) j h all }
 
   -- one rule
-  left : Grounded (row_rule c i) (side n m) (side n u) → GroundsRule c n i m u u (Ok false)
-  left q =
-      record {
-        kept = kept_refl n u space;
-        step = λ P b. step_same (Grounding P (side n m)) n (Grounded (row_rule c i) (side n m)) u space q;
-      }
-
-  pub ground_full : (b : Bool) → b ≡ false → Lacks (row_rule c i) (side n m) (side n u) b → GroundsRule c n i m u u (Ok false)
-  ground_full b e t = left (λ k. (subst (Lacks (row_rule c i) (side n m) (side n u)) e t).tells)
-
   module _ (need most : ℕ) (en : need ≡ need_at c i) (er : most ≡ value (row_rule c i) (is 1 (side n u)) (isnt 1 (side n m))) where
-    pub ground_short : most < need → GroundsRule c n i m u u (Ok false)
-    ground_short h = left (λ k. absurd (omega arith))
-
     pub ground_give :
         need ≤ most → (u' : List ℕ) (r : Outcome) → GroundsHeads c n i m u (positives_at c i) u' r → GroundsRule c n i m u u' r
     ground_give h u' r s =
@@ -184,11 +132,3 @@ module _ (c : List ℕ) (n i : ℕ) (m u : List ℕ) (row : Row c n i) (space : 
         more : (X : Map) → side n u ⊑ X → need_at c i ≤ value (row_rule c i) (is 1 X) (isnt 1 (side n m))
         more X up =
             omega (arith, value_mono (row_rule c i) (is 1 (side n u)) (isnt 1 (side n m)) (is 1 X) (isnt 1 (side n m)) (part X up))
-
--- whether an atom is missing
-module _ (M U : Map) (a a' : ℕ) (e : a ≡ a') where
-  pub missing_not_out : (x : ℕ) → x ≡ M a → x ≡ 2 → Misses M U a' false
-  missing_not_out x ex h = record { tells = λ f. absurd (f (ap M (sym e) ∙ sym ex ∙ h)) }
-
-  pub missing_not_in : (x : ℕ) → x ≡ U a → x ≡ 1 → Misses M U a' false
-  missing_not_in x ex h = record { tells = λ f. ap U (sym e) ∙ sym ex ∙ h }

@@ -25,9 +25,3 @@ pub visited :
 visited Q down count M t k l h =
     subst (λ (x : ℕ). Q x M) (placed_twice down count k h)
     (t (placed down count k) (omega arith) (placed_less down count k h))
-
--- a step at the rule that is visited
-pub at_place :
-    (Good : Map → Type 0) (n : ℕ) (Q : ℕ → Map → Type 0) {k k' : ℕ} {m m' : List ℕ} {r : Outcome} → k ≡ k'
-    → Step Good n (Q k) m m' r → Step Good n (Q k') m m' r
-at_place Good n Q {m = m} {m' = m'} {r = r} e s = subst (λ (x : ℕ). Step Good n (Q x) m m' r) e s

@@ -32,14 +32,6 @@ module _ (c : List ℕ) (n i : ℕ) (m : List ℕ) where
   left : MapBytes n m → Settled (row_rule c i) (side n m) → Settles c n i m m (Ok false)
   left p q = record { kept = kept_refl n m p; step = λ P b. step_same (Closed P n) n (Settled (row_rule c i)) m p q }
 
-  pub settle_choice : (b : Bool) → b ≡ chooses (kind_at c i) → b ≡ true → MapBytes n m → Settles c n i m m (Ok false)
-  settle_choice b e t p =
-      left p
-      (record {
-        first = λ g. absurd (T_not (chooses (kind_at c i)) g (true_T (sym e ∙ t)));
-        third = λ g. absurd (T_not (chooses (kind_at c i)) g (true_T (sym e ∙ t)));
-      })
-
   module _ (row : Row c n i) (gives : T (not (chooses (kind_at c i)))) where
     -- its one head
     pub head_within : Within n (pair_atom c (heads_at c i))

@@ -9,7 +9,7 @@ ghost use Rattle.forcing.specs.Inner.Ground.{PutsUnless, Lacks, GroundsHeads, Gr
 
 use super::pass::place;
 use table::{Table, TableRow};
-use weigh::{Clash, Seen, put, side_of, weigh_rule};
+use weigh::{Clash, IN, OUT, Seen, put, side_of, weigh_rule};
 
 // Put atom a on a side in w, unless it has the given side in m.
 fn put_unless(n: u32, m: &[u8], a: u32, given: u8, v: u8, w: &mut [u8]) -> Result<bool, Clash>
@@ -32,7 +32,7 @@ fn ground_heads(row: &TableRow, m: &[u8], u: &mut [u8]) -> Result<bool, Clash>
 {
     let mut grew = false;
     for j in row.heads()..row.positives() {
-        grew |= put_unless(row.atoms, m, table::atom_at(row.code, j), 2, 1, u)?;
+        grew |= put_unless(row.atoms, m, table::atom_at(row.code, j), OUT, IN, u)?;
     }
     Ok(grew)
 }
@@ -45,7 +45,7 @@ fn misses(row: &TableRow, j: u32, m: &[u8], u: &[u8]) -> bool
     ensures { Misses (side row.now.atoms m.now) (side row.now.atoms u.now) (pair_atom row.now.code.now j) result }
 {
     let a = table::atom_at(row.code, j);
-    side_of(m, row.atoms, a) != 2 && side_of(u, row.atoms, a) != 1
+    side_of(m, row.atoms, a) != OUT && side_of(u, row.atoms, a) != IN
 }
 
 // May a head of a rule that is not out be missing in u?
@@ -69,7 +69,7 @@ fn ground(row: &TableRow, m: &[u8], u: &mut [u8]) -> Result<bool, Clash>
     ensures { GroundsRule row.now.code.now row.now.atoms row.now.at m.now u.old u.new result }
 {
     if lacks(row, m, u) {
-        let most = weigh_rule(row, u, Seen::On(1), m, Seen::Off(1));
+        let most = weigh_rule(row, u, Seen::On(IN), m, Seen::Off(IN));
         if most < row.need() {
             return Ok(false);
         }
@@ -92,7 +92,7 @@ fn ground_all(t: &Table, down: bool, m: &[u8], u: &mut [u8]) -> Result<bool, Cla
     Ok(grew)
 }
 
-// Set the bytes of u, all 0 at first, to 1 at exactly the founded atoms.
+// Put in u, blank at first, exactly the founded atoms.
 pub fn founded(t: &Table, m: &[u8], u: &mut [u8])
     requires map { MapBytes t.now.atoms m.now }
     requires blank { Blank t.now.atoms u.old }
@@ -112,7 +112,7 @@ pub fn drop_all(n: u32, u: &[u8], m: &mut [u8]) -> Result<bool, Clash>
 {
     let mut grew = false;
     for a in 0..n {
-        grew |= put_unless(n, u, a + 1, 1, 2, m)?;
+        grew |= put_unless(n, u, a + 1, IN, OUT, m)?;
     }
     Ok(grew)
 }

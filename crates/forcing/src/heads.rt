@@ -4,7 +4,7 @@ ghost use Rattle.forcing.specs.Inner.Heads.{HeadAsks, Settles, SettlesAll};
 
 use super::pass::place;
 use table::{Table, TableRow};
-use weigh::{Clash, press_body, put, side_of, sure};
+use weigh::{Clash, IN, OUT, press_body, put, side_of, sure};
 
 // A rule that is no choice rule and whose head has side x.
 fn settle_head(row: &TableRow, head: u32, x: u8, m: &mut [u8]) -> Result<bool, Clash>
@@ -14,9 +14,9 @@ fn settle_head(row: &TableRow, head: u32, x: u8, m: &mut [u8]) -> Result<bool, C
     let need = row.need();
     let held = sure(row, m);
     if need <= held {
-        return put(m, row.atoms, head, 1);
+        return put(m, row.atoms, head, IN);
     }
-    let is_out = x == 2;
+    let is_out = x == OUT;
     if is_out {
         return press_body(row, need - held, false, m);
     }
@@ -33,7 +33,7 @@ fn settle(row: &TableRow, m: &mut [u8]) -> Result<bool, Clash>
     }
     let head = table::atom_at(row.code, row.heads());
     let x = side_of(m, row.atoms, head);
-    let is_in = x == 1;
+    let is_in = x == IN;
     if is_in {
         return Ok(false);
     }

@@ -1,5 +1,5 @@
 // Closing a map: the forcing rules, one pass after another, until none adds anything.
-ghost use Rattle.std.specs.Prelude.{◌≤◌, ◌≡◌, ◌==◌, count_by, length};
+ghost use Rattle.std.specs.Prelude.{◌≤◌, ◌≡◌, ◌==◌, count_by, length, position};
 ghost use Rattle.rules.specs.Forcing.{Closed};
 ghost use Rattle.table.specs.Inner.Rows.{table_rules};
 ghost use Rattle.rules.specs.Inner.Bytes.{Room, MapBytes};
@@ -11,14 +11,14 @@ use super::heads::settle_all;
 use super::support::{back_all, count_all};
 use rules::Atom;
 use table::Table;
-use weigh::Clash;
+use weigh::{Clash, IN, OPEN};
 
-// How many bytes are 0.
+// How many bytes are of an undecided atom.
 fn zeros(bytes: &[u8]) -> usize
     ensures few { result ≤ length bytes.now }
     ensures counted { result ≡ count_by (λ x. x == 0) bytes.now }
 {
-    bytes.iter().filter(|x| **x == 0).count()
+    bytes.iter().filter(|x| **x == OPEN).count()
 }
 
 // How many of the n atoms are undecided.
@@ -29,25 +29,27 @@ pub fn count_undecided(m: &[u8], n: u32) -> u32
     zeros(&m[..n as usize]) as u32
 }
 
+// The index of the first byte that is v.
+fn first_of(bytes: &[u8], v: u8) -> Option<usize>
+    ensures { result ≡ position (λ x. x == v) bytes.now }
+{
+    bytes.iter().position(|x| *x == v)
+}
+
 // The index of the first of n bytes that is v.
-fn first_with(m: &[u8], n: u32, v: u8) -> Option<u32>
+fn first_with(m: &[u8], n: u32, v: u8) -> Option<usize>
     requires { Room n m.now }
     ensures { FirstWith v n m.now result }
 {
-    for i in 0..n {
-        if m[i as usize] == v {
-            return Some(i);
-        }
-    }
-    None
+    first_of(&m[..n as usize], v)
 }
 
 // The index of the lowest undecided atom.
-pub fn lowest(m: &[u8], n: u32) -> Option<u32>
+pub fn lowest(m: &[u8], n: u32) -> Option<usize>
     requires { Room n m.now }
     ensures { LowestAt n m.now result }
 {
-    first_with(m, n, 0)
+    first_with(m, n, OPEN)
 }
 
 // Forcing rule 2 at every rule: nothing where no atom is in, every atom is decided, or no atom has one rule.
@@ -55,7 +57,7 @@ fn back_round(t: &Table, m: &mut [u8]) -> Result<bool, Clash>
     requires { MapBytes t.now.atoms m.old }
     ensures { Forcing t.now.code.now t.now.atoms t.now.rules (BackedAll t.now.code.now t.now.rules) m.old m.new result }
 {
-    if first_with(m, t.atoms, 1).is_none() {
+    if first_with(m, t.atoms, IN).is_none() {
         return Ok(false);
     }
     let first_open = lowest(m, t.atoms);
@@ -63,6 +65,7 @@ fn back_round(t: &Table, m: &mut [u8]) -> Result<bool, Clash>
     if is_whole {
         return Ok(false);
     }
+    // for the most atoms, since there is no heap
     let mut counts = [0u8; Atom::LAST];
     count_all(t, m, &mut counts);
     if first_with(&counts, t.atoms, 1).is_none() {
@@ -76,6 +79,7 @@ fn drop_round(t: &Table, m: &mut [u8]) -> Result<bool, Clash>
     requires { MapBytes t.now.atoms m.old }
     ensures { Forcing t.now.code.now t.now.atoms t.now.rules (FoundedAll t.now.code.now t.now.atoms t.now.rules) m.old m.new result }
 {
+    // for the most atoms, since there is no heap
     let mut u = [0u8; Atom::LAST];
     founded(t, m, &mut u);
     drop_all(t.atoms, &u, m)

@@ -11,7 +11,7 @@ ghost use Rattle.rules.specs.Inner.Decides.{Decides};
 ghost use Rattle.forcing.specs.Inner.Support.{up_to_two, Counts, Adds, Scarce, ScarceHead, Backs, BacksAll};
 
 use table::{Table, TableRow};
-use weigh::{Clash, press_body, reach, side_of};
+use weigh::{Clash, IN, press_body, reach, side_of};
 
 // One more than a count: none, one, or more.
 fn one_more(count: u8) -> u8
@@ -28,7 +28,7 @@ fn count_pair(row: &TableRow, j: u32, m: &[u8], counts: &mut [u8])
     ensures { Adds row.now.atoms (λ a. is 1 (side row.now.atoms m.now) a && eqb a (pair_atom row.now.code.now j)) counts.old counts.new }
 {
     let a = table::atom_at(row.code, j);
-    let is_apart = side_of(m, row.atoms, a) != 1;
+    let is_apart = side_of(m, row.atoms, a) != IN;
     if is_apart {
         return;
     }
@@ -56,7 +56,7 @@ fn is_scarce(row: &TableRow, j: u32, m: &[u8], counts: &[u8], least: u8) -> bool
 {
     let a = table::atom_at(row.code, j);
     let x = side_of(m, row.atoms, a);
-    if x != 1 {
+    if x != IN {
         return false;
     }
     let k = side_of(counts, row.atoms, a);

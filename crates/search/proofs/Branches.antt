@@ -24,7 +24,6 @@ module _ {c : List ℕ} {n count : ℕ} (laid : Laid c n count) where
   ok = laid_numbered c n count laid
 
 module _ {c : List ℕ} {n count : ℕ} (laid : Laid c n count) {m : List ℕ} where
-
   -- nothing is left to decide
   pub decided_all : Standing c n count m → NoneWith 0 n m → Answers c n count m (Some m)
   decided_all st none = record { answer = (leaf (ok laid) st.closed decided st.held, whole) }
@@ -50,14 +49,6 @@ module _ {c : List ℕ} {n count : ℕ} (laid : Laid c n count) {m : List ℕ} w
         }
 
     module _ (s : Bool) where
-      pub next_stands : {q : List ℕ} → ClosedGuess c n count m (i + 1) s q → Standing c n count q
-      next_stands g =
-          record {
-            proper = g.proper;
-            closed = g.least.closed;
-            held = holding_up (computed (table_sheet c n count)) g.least.holding.above op.stands.held;
-          }
-
       -- the answer for the closed guess is the answer for the branch
       pub followed :
           {q : List ℕ} (r : Option (List ℕ)) → ClosedGuess c n count m (i + 1) s q → Answers c n count q r
@@ -80,15 +71,3 @@ module _ {c : List ℕ} {n count : ℕ} (laid : Laid c n count) {m : List ℕ} w
     answered_in (Some _) e f =
         record { answer = (try_in (ok laid) op.stands.closed.is_map lowest_low f.answer.0, f.answer.1) }
     answered_in None e f = absurd (false≢true e)
-
-    -- else out
-    pub answered_out :
-        (first : Option (List ℕ)) → is_some first ≡ false → Follows c n count m (i + 1) true first → (r : Option (List ℕ))
-        → Follows c n count m (i + 1) false r → Answers c n count m r
-    answered_out (Some _) e f r g = absurd (true≢false e)
-    answered_out None e f (Some _) g =
-        record {
-          answer = (try_out (ok laid) op.stands.closed.is_map lowest_low f.answer g.answer.0, g.answer.1);
-        }
-    answered_out None e f None g =
-        record { answer = try_none (ok laid) op.stands.closed.is_map lowest_low f.answer g.answer }

@@ -1,4 +1,4 @@
-// The search for the first model above a closed map.
+// The search for the first model above a closed map: three functions that call each other, with the map by value at each (document 01).
 #![tactic(auto)]
 
 ghost use Rattle.std.specs.Prelude.{◌+◌};
@@ -10,19 +10,24 @@ use table::Table;
 use weigh::{Clash, side_for};
 
 // The map with the atom at this index put on one side, closed.
-fn guess(t: &Table, map: [u8; Atom::LAST], i: u32, inside: bool) -> Result<[u8; Atom::LAST], Clash>
+fn guess(
+    t: &Table,
+    map: [u8; Atom::LAST],
+    i: usize,
+    inside: bool,
+) -> Result<[u8; Atom::LAST], Clash>
     requires { Open t.now.code.now t.now.atoms t.now.rules map i }
     ensures { Tries t.now.code.now t.now.atoms t.now.rules map (i + 1) inside result }
 {
     let mut next = map;
-    next[i as usize] = side_for(inside);
+    next[i] = side_for(inside);
     close(t, &mut next)?;
     Ok(next)
 }
 
 // The first model that has the guess.
 #[cycle(choose_follow_trial)]
-fn follow(t: &Table, map: [u8; Atom::LAST], i: u32, inside: bool) -> Option<[u8; Atom::LAST]>
+fn follow(t: &Table, map: [u8; Atom::LAST], i: usize, inside: bool) -> Option<[u8; Atom::LAST]>
     requires { Open t.now.code.now t.now.atoms t.now.rules map i }
     ensures { Follows t.now.code.now t.now.atoms t.now.rules map (i + 1) inside result }
 {
@@ -34,7 +39,7 @@ fn follow(t: &Table, map: [u8; Atom::LAST], i: u32, inside: bool) -> Option<[u8;
 
 // First with the atom in, then with it out: the map is kept, and the second guess is made on it as it stood before the first.
 #[cycle(choose_follow_trial)]
-fn trial(t: &Table, map: [u8; Atom::LAST], i: u32) -> Option<[u8; Atom::LAST]>
+fn trial(t: &Table, map: [u8; Atom::LAST], i: usize) -> Option<[u8; Atom::LAST]>
     requires { Open t.now.code.now t.now.atoms t.now.rules map i }
     ensures { Answers t.now.code.now t.now.atoms t.now.rules map result }
 {

@@ -18,19 +18,22 @@ pub const ROW: usize = 5;
 
 pub const PAIR: usize = 2;
 
+#[tactic(auto, unfolding(crate::specs::Inner::Words::word_at))]
 pub fn word(code: &[u32], i: usize) -> u32
     ensures { result ≡ word_at code.now i }
 {
-    if i < code.len() { code[i] } else { 0 }
+    code.get(i).copied().unwrap_or(0)
 }
 
 // The atom of pair j, and the weight of its literal.
+#[tactic(auto, unfolding(crate::specs::Inner::Words::pair_width, crate::specs::Inner::Words::pair_atom))]
 pub fn atom_at(code: &[u32], j: u32) -> u32
     ensures { result ≡ pair_atom code.now j }
 {
     word(code, PAIR * (j as usize) + 1)
 }
 
+#[tactic(auto, unfolding(crate::specs::Inner::Words::pair_width, crate::specs::Inner::Words::pair_weight))]
 pub fn weight_at(code: &[u32], j: u32) -> u32
     ensures { result ≡ pair_weight code.now j }
 {
@@ -59,6 +62,7 @@ pub fn is_choice(code: &[u32], i: u32) -> bool
     kind_at(code, i) == Kind::Choice
 }
 
+#[tactic(auto, unfolding(crate::specs::Inner::Words::row_width, crate::specs::Inner::Rows::need_at))]
 pub fn need_at(code: &[u32], i: u32) -> u32
     ensures { result ≡ need_at code.now i }
 {
@@ -66,18 +70,21 @@ pub fn need_at(code: &[u32], i: u32) -> u32
 }
 
 // Where the heads of rule i begin; the positive literals, which end them; and the negated literals, which end those.
+#[tactic(auto, unfolding(crate::specs::Inner::Words::row_width, crate::specs::Inner::Rows::heads_at))]
 pub fn heads_at(code: &[u32], i: u32) -> u32
     ensures { result ≡ heads_at code.now i }
 {
     word(code, ROW * (i as usize) + 2)
 }
 
+#[tactic(auto, unfolding(crate::specs::Inner::Words::row_width, crate::specs::Inner::Rows::positives_at))]
 pub fn positives_at(code: &[u32], i: u32) -> u32
     ensures { result ≡ positives_at code.now i }
 {
     word(code, ROW * (i as usize) + 3)
 }
 
+#[tactic(auto, unfolding(crate::specs::Inner::Words::row_width, crate::specs::Inner::Rows::negatives_at))]
 pub fn negatives_at(code: &[u32], i: u32) -> u32
     ensures { result ≡ negatives_at code.now i }
 {
@@ -85,6 +92,7 @@ pub fn negatives_at(code: &[u32], i: u32) -> u32
 }
 
 // Where rule i ends: the next row's heads begin there.
+#[tactic(auto, unfolding(crate::specs::Inner::Words::row_width, crate::specs::Inner::Rows::heads_at))]
 pub fn end_at(code: &[u32], i: u32) -> u32
     ensures { result ≡ end_at code.now i }
 {

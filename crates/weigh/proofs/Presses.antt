@@ -20,7 +20,7 @@ use Rattle.weigh.specs.Inner.Step.{Decided, Outcome, Till, Puts}
 use Rattle.weigh.specs.Inner.Press.{PairPressed, PairDue, PairAsks, PressesPair, Presses, aim, Pressed, Due, PressesBody}
 use Rattle.weigh.specs.declared.Clash.{Clash}
 use Rattle.weigh.proofs.Bytes.{proper_map}
-use Rattle.weigh.proofs.Steps.{after, kept_refl, kept_trans, kept_put, concludes_on, step_same, quieter, step_joined, steps_begin, steps_more, steps_end, step_put, clash_any}
+use Rattle.weigh.proofs.Steps.{after, kept_trans, kept_put, concludes_on, quieter, step_joined, steps_more, step_put, clash_any}
 
 -- what is undecided in a map was so in a map below it
 pub undecided_back : (M M' : Map) (a : ℕ) → M a ≤ 2 → M ⊑ M' → M' a ≡ 0 → M a ≡ 0
@@ -32,22 +32,6 @@ undecided_back M M' a h f z =
     (sides (M a) h true)
 
 module _ (c : List ℕ) (n j least v : ℕ) (m : List ℕ) (asks : PairAsks c n j v m) where
-  -- a pair that weighs less, or is decided, is left
-  pub pair_light : (w : ℕ) → w ≡ pair_weight c j → w < least → PressesPair c n j least v m m (Ok false)
-  pair_light w e h =
-      record {
-        kept = kept_refl n m asks.proper;
-        step = λ P due. step_same (Closed P n) n (PairPressed c least j) m asks.proper (λ k z. omega arith);
-      }
-
-  pub pair_decided : (a x : ℕ) → a ≡ pair_atom c j → x ≡ side n m a → (x ≡ 0 → ⊥) → PressesPair c n j least v m m (Ok false)
-  pair_decided a x ea ex f =
-      record {
-        kept = kept_refl n m asks.proper;
-        step =
-            λ P due. step_same (Closed P n) n (PairPressed c least j) m asks.proper (λ k z. f (ex ∙ ap (side n m) ea ∙ z));
-      }
-
   pub pressed_put :
       (w a x : ℕ) (m' : List ℕ) (r : Outcome) → w ≡ pair_weight c j → least ≤ w → a ≡ pair_atom c j → x ≡ side n m a → x ≡ 0
       → Puts n m a v m' r → PressesPair c n j least v m m' r
@@ -69,10 +53,6 @@ module _ (c : List ℕ) (n j least v : ℕ) (m : List ℕ) (asks : PairAsks c n 
       here = sym (ap (side n m) ea) ∙ sym ex ∙ z
 
 module _ (c : List ℕ) (n f t least v : ℕ) (m : List ℕ) (proper : MapBytes n m) where
-  pub run_begin : Presses c n f t least v m f m (Ok false)
-  run_begin =
-      record { kept = kept_refl n m proper; step = λ P due. steps_begin (Closed P n) n (PairPressed c least) f m proper }
-
   pub run_more :
       (j : ℕ) (m' m'' : List ℕ) (r : Bool) (q : Outcome) → f ≤ j → j < t → Presses c n f t least v m j m' (Ok r)
       → PressesPair c n j least v m' m'' q → Presses c n f t least v m (j + 1) m'' (after r q)
@@ -97,10 +77,6 @@ module _ (c : List ℕ) (n f t least v : ℕ) (m : List ℕ) (proper : MapBytes 
         kept = q.kept;
         step = λ P due. clash_any (Closed P n) n (Till (PairPressed c least) f (j + 1)) (Till (PairPressed c least) f t) m m'' (q.step P due);
       }
-
-  pub run_end : (j : ℕ) (m' : List ℕ) (r : Outcome) → t ≤ j → Presses c n f t least v m j m' r → Presses c n f t least v m t m' r
-  run_end j m' r h s =
-      record { kept = s.kept; step = λ P due. steps_end (Closed P n) n (PairPressed c least) f t j m m' r h (s.step P due) }
 
 pub want_sided : (s : Bool) → Decided (want s)
 want_sided true = record { low = omega arith; high = omega arith }

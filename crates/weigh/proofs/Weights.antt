@@ -21,9 +21,6 @@ module _ (M : Map) (e : Seen) (a a' x w w' : ℕ) (b : Bool) (ea : a ≡ a') (ex
   pub counts : b ≡ true → w ≡ w' → w ≡ counted (sees e M a') w'
   counts t ew = ew ∙ ap (λ (f : Bool). counted f w') (sym t ∙ seen)
 
-  pub counts_not : b ≡ false → 0 ≡ counted (sees e M a') w'
-  counts_not t = ap (λ (f : Bool). counted f w') (sym t ∙ seen)
-
 pub seg_cast : (c : List ℕ) (n : ℕ) {f f' t t' : ℕ} → f ≡ f' → t ≡ t' → Seg c n f' t' → Seg c n f t
 seg_cast c n {f} {f'} {t} {t'} ef et s = subst (λ (x : ℕ). Seg c n x t) (sym ef) (subst (Seg c n f') (sym et) s)
 

@@ -17,6 +17,13 @@ pub use press::{press_body, side_for};
 pub use step::put;
 use table::TableRow;
 
+// The sides of an atom: bytes, since a map is bytes that a call is lent ("A map has one byte for each atom").
+pub const OPEN: u8 = 0;
+
+pub const IN: u8 = 1;
+
+pub const OUT: u8 = 2;
+
 // No closed map holds the map. A step that finds none such says whether it added something.
 #[derive(Clone, Copy, Debug, PartialEq, Eq)]
 pub struct Clash;
@@ -39,7 +46,7 @@ impl Seen {
     }
 }
 
-// The side of atom a, one of n.
+// The side of atom a, one of n. Maps stay plain bytes with n beside them: a call is lent them so, and the search keeps arrays (document 01).
 pub fn side_of(m: &[u8], n: u32, a: u32) -> u8
     requires { Side n a m.now }
     ensures { result ≡ side n m.now a }
@@ -47,7 +54,7 @@ pub fn side_of(m: &[u8], n: u32, a: u32) -> u8
     m[(a - 1) as usize]
 }
 
-// What the literal of pair j counts for: its weight where its atom is seen, else 0.
+// What the literal of pair j counts for: its weight where its atom is seen, else 0. A pair goes by its place, so that of a head no weight is read.
 fn weigh_pair(row: &TableRow, j: u32, m: &[u8], seen: Seen) -> u32
     requires pair { Pair row.now.code.now row.now.atoms j }
     requires room { Room row.now.atoms m.now }
@@ -89,7 +96,7 @@ pub fn sure(row: &TableRow, m: &[u8]) -> u32
     requires { Room row.now.atoms m.now }
     ensures { result ≡ sure (row_rule row.now.code.now row.now.at) (side row.now.atoms m.now) }
 {
-    weigh_rule(row, m, Seen::On(1), m, Seen::On(2))
+    weigh_rule(row, m, Seen::On(IN), m, Seen::On(OUT))
 }
 
 // The weight of a rule's literals that are not false.
@@ -97,7 +104,7 @@ pub fn reach(row: &TableRow, m: &[u8]) -> u32
     requires { Room row.now.atoms m.now }
     ensures { result ≡ reach (row_rule row.now.code.now row.now.at) (side row.now.atoms m.now) }
 {
-    weigh_rule(row, m, Seen::Off(2), m, Seen::Off(1))
+    weigh_rule(row, m, Seen::Off(OUT), m, Seen::Off(IN))
 }
 
 // Reach less need of a rule. Below zero the body can no longer hold.

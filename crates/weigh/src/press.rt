@@ -5,7 +5,7 @@ ghost use Rattle.rules.specs.Inner.Bytes.{MapBytes};
 ghost use Rattle.weigh.specs.Inner.Press.{PairAsks, RunAsks, PressesPair, Presses, PressesBody};
 
 use super::step::put;
-use super::{Clash, side_of};
+use super::{Clash, IN, OPEN, OUT, side_of};
 use table::TableRow;
 
 // Put the atom of pair j on a side, if it is undecided and the pair weighs at least so much.
@@ -19,7 +19,7 @@ fn press_pair(row: &TableRow, j: u32, least: u32, v: u8, m: &mut [u8]) -> Result
     }
     let a = table::atom_at(row.code, j);
     let x = side_of(m, row.atoms, a);
-    let is_decided = x != 0;
+    let is_decided = x != OPEN;
     if is_decided {
         return Ok(false);
     }
@@ -49,7 +49,7 @@ fn press_run(
 pub fn side_for(truth: bool) -> u8
     ensures { result ≡ want truth }
 {
-    if truth { 1 } else { 2 }
+    if truth { IN } else { OUT }
 }
 
 // Give every undecided literal of a rule that weighs at least so much this truth.

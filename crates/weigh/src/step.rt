@@ -2,7 +2,7 @@
 ghost use Rattle.weigh.specs.Inner.Step.{Puts};
 ghost use Rattle.weigh.specs.Inner.Weigh.{Side};
 
-use super::Clash;
+use super::{Clash, OPEN};
 
 // Put atom a, one of n, on a side: a clash where it is on the other.
 pub fn put(m: &mut [u8], n: u32, a: u32, v: u8) -> Result<bool, Clash>
@@ -14,7 +14,7 @@ pub fn put(m: &mut [u8], n: u32, a: u32, v: u8) -> Result<bool, Clash>
     if x == v {
         return Ok(false);
     }
-    if x != 0 {
+    if x != OPEN {
         return Err(Clash);
     }
     m[i] = v;

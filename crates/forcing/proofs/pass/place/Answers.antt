@@ -1,15 +1,8 @@
 -- `forcing::pass::place`: each branch is a clause of the definition.
 use mathlib.Core.Path.{sym, ap}
 use mathlib.Core.Bool.{Bool}
-use native.Mathlib.Omega.{arith}
 use Rattle.forcing.specs.Inner.Pass.{placed}
 use Rattle.forcing.proofs.pass.place.Goals as goal
-
-pub overflow_sub-result : goal.overflow_sub-result
-overflow_sub-result c = omega (arith, c.requires)
-
-pub overflow_sub-result-then-down : goal.overflow_sub-result-then-down
-overflow_sub-result-then-down c = omega (arith, c.requires)
 
 pub returns-then-down : goal.returns-then-down
 unfolding placed

@@ -8,14 +8,14 @@ returns-then-x-v c =
     let a = c.args in
     let at = side_at a.n a.m.now a.a c.requires.within in record { put = (refl, at ∙ c.if-x-v.true) }
 
-pub returns-then-x-ne0 : goal.returns-then-x-ne0
-returns-then-x-ne0 c =
+pub returns-then-x-ne-OPEN : goal.returns-then-x-ne-OPEN
+returns-then-x-ne-OPEN c =
     let a = c.args in
     let at = side_at a.n a.m.now a.a c.requires.within in
-    record { put = (refl, (λ e. c.if-x-v.false (sym at ∙ e), λ e. c.if-x-ne0.true (sym at ∙ e))) }
+    record { put = (refl, (λ e. c.if-x-v.false (sym at ∙ e), λ e. c.if-x-ne-OPEN.true (sym at ∙ e))) }
 
 pub returns : goal.returns
 returns c =
     let a = c.args in
     let at = side_at a.n a.m.now a.a c.requires.within in
-    record { put = (refl, at ∙ c.if-x-ne0.false) }
+    record { put = (refl, at ∙ c.if-x-ne-OPEN.false) }

@@ -1,8 +1,0 @@
--- `table::atom_at`: It is the word that the definition names.
-use borrow.Author.Rules.{rules}
-use Rattle.table.specs.Inner.Words.{pair_atom, pair_width}
-use Rattle.table.proofs.atom_at.Goals as goal
-
-pub returns : goal.returns
-unfolding pair_atom pair_width
-returns c = search rules

@@ -1,9 +1,0 @@
--- `table::negatives_at`: It is the word that the definition names.
-use borrow.Author.Rules.{rules}
-use Rattle.table.specs.Inner.Words.{row_width}
-use Rattle.table.specs.Inner.Rows.{negatives_at}
-use Rattle.table.proofs.negatives_at.Goals as goal
-
-pub returns : goal.returns
-unfolding negatives_at row_width
-returns c = search rules
