@@ -13,8 +13,7 @@ use Rattle.sheet.proofs.sheet.Ran.{sheet_ran}
 use Rattle.desk.specs.Promise.{Solves}
 use Rattle.desk.specs.declared.Solved.{Solved}
 use Rattle.desk.specs.declared.Solved.TheVariants.{Model}
-use Rattle.arrayvec.specs.ArrayString.{ArrayString}
-use Rattle.text.specs.Line.{model_line, Spells}
+use Rattle.text.specs.Line.{ArrayString, model_line, Spells}
 use Rattle.solve.specs.Answer.{atoms_in, line_of, Prints}
 
 -- a sheet has no more atoms than a line names

@@ -3,11 +3,10 @@
 use mathlib.Core.Path.{◌≡◌, sym, ap₂, subst}
 use mathlib.Core.List.{List}
 use Prim.Native.Nat.{ℕ}
-use Rattle.arrayvec.specs.ArrayString.{ArrayString, array_string_len}
 use Rattle.rules.specs.Map.{blank}
 use Rattle.desk.specs.declared.Solved.{Solved}
 use Rattle.desk.proofs.Tight.{solves_tight}
-use Rattle.text.specs.Line.{Spells}
+use Rattle.text.specs.Line.{ArrayString, array_string_len, Spells}
 use Rattle.text.proofs.Tight.{holds_tight}
 use Rattle.solve.specs.Answer.{atoms_in, line_of, Prints}
 

@@ -6,8 +6,7 @@ use Rattle.sheet.specs.Sheet.{sheet_read, sheet_then}
 use Rattle.desk.specs.Promise.{Solves}
 use Rattle.desk.specs.declared.Solved.{Solved}
 use Rattle.desk.specs.declared.Solved.TheVariants.{Model, NoModel, Refused}
-use Rattle.arrayvec.specs.ArrayString.{ArrayString}
-use Rattle.text.specs.Line.{model_line, none_line, refused_line, Spells}
+use Rattle.text.specs.Line.{ArrayString, model_line, none_line, refused_line, Spells}
 
 -- the atom count of a sheet; 0 where it is refused
 unfoldable pub atoms_in : List ℕ → ℕ

@@ -1,7 +1,7 @@
 -- "The program writes one line: `MODEL` and the in-atoms, each after one space; or `NONE`; or `REFUSED` number place."
 -- A line is a list of bytes, and ends in a line feed. A number is written in decimal, with no leading zero.
 use Rattle.std.specs.Prelude.{ℕ, zero, suc, ◌+◌, ◌/◌, ◌%◌, ◌≡◌, Bool, true, false, cond, List, [], ◌∷◌, ◌++◌, get_or, eqb, ltb}
-use Rattle.arrayvec.specs.ArrayString.{ArrayString}
+pub use Rattle.arrayvec.specs.ArrayString.{ArrayString, array_string_len}
 
 -- the byte of a digit below 10
 abbrev pub digit : ℕ → ℕ
