@@ -9,8 +9,8 @@ use rules::RuleNo;
 // No heap: rows are linked by numbers, in arrays of fixed size. A slot and a link hold the number of a row, 1 for the first, or 0.
 #[derive(Drop)]
 pub struct Kept {
-    slots: [u16; SLOTS],
-    links: [u16; RuleNo::LAST],
+    pub slots: [u16; SLOTS],
+    pub links: [u16; RuleNo::LAST],
 }
 
 impl Kept {

@@ -13,7 +13,7 @@ use Rattle.sheet.proofs.sheet.Ran.{sheet_ran}
 use Rattle.desk.specs.Promise.{Solves}
 use Rattle.desk.specs.declared.Solved.{Solved}
 use Rattle.desk.specs.declared.Solved.TheVariants.{Model}
-use Rattle.text.specs.Line.{model_line}
+use Rattle.text.specs.Line.{ArrayString, model_line, Spells}
 use Rattle.solve.specs.Answer.{atoms_in, line_of, Prints}
 
 -- a sheet has no more atoms than a line names
@@ -26,14 +26,14 @@ few s = by (sheet_read s) refl
     by (Accepted o) e = (sheet_ran s o e).well_formed.atoms
 
 pub answered :
-    (s : List ℕ) {m text : List ℕ} {r r' : Solved} → r ≡ r' → Solves s blank m r
-    → text ≡ line_of r' (atoms_in s) m → Prints s text
+    (s : List ℕ) {m : List ℕ} {line : ArrayString} {r r' : Solved} → r ≡ r' → Solves s blank m r
+    → Spells line (line_of r' (atoms_in s) m) → Prints s line
 answered s {m} {r' = r'} e p h =
     record { answer = r'; map = m; solves = subst (Solves s blank m) e p; holds = h }
 
 pub model_answered :
-    (s : List ℕ) {m text : List ℕ} {n : ℕ} {r : Solved} → r ≡ Model → Solves s blank m r
-    → n ≡ atoms_in s → text ≡ model_line (min n atoms_most) m → Prints s text
+    (s : List ℕ) {m : List ℕ} {line : ArrayString} {n : ℕ} {r : Solved} → r ≡ Model → Solves s blank m r
+    → n ≡ atoms_in s → Spells line (model_line (min n atoms_most) m) → Prints s line
 model_answered s {m} e p q h =
     answered s e p
     (h ∙ ap (λ (k : ℕ). model_line k m) (ap (λ (k : ℕ). min k atoms_most) q ∙ min-eq_left (few s)))

@@ -1,12 +1,12 @@
 -- "The program writes one line: `MODEL` and the in-atoms, each after one space; or `NONE`; or `REFUSED` number place."
 -- What the line says is what solve answers on a map of zeros with room for every sheet.
-use Rattle.std.specs.Prelude.{ℕ, ◌≡◌, List}
+use Rattle.std.specs.Prelude.{ℕ, List}
 use Rattle.rules.specs.Map.{blank}
 use Rattle.sheet.specs.Sheet.{sheet_read, sheet_then}
 use Rattle.desk.specs.Promise.{Solves}
 use Rattle.desk.specs.declared.Solved.{Solved}
 use Rattle.desk.specs.declared.Solved.TheVariants.{Model, NoModel, Refused}
-use Rattle.text.specs.Line.{model_line, none_line, refused_line}
+use Rattle.text.specs.Line.{ArrayString, model_line, none_line, refused_line, Spells}
 
 -- the atom count of a sheet; 0 where it is refused
 unfoldable pub atoms_in : List ℕ → ℕ
@@ -18,9 +18,9 @@ line_of Model n m = model_line n m
 line_of NoModel n m = none_line
 line_of (Refused why) n m = refused_line why.number why.place
 
--- the text is the line of what solve answers
-pub record Prints (s text : List ℕ) : Type 0 where
+-- the line is that of what solve answers
+pub record Prints (s : List ℕ) (line : ArrayString) : Type 0 where
   pub answer : Solved
   pub map : List ℕ
   pub solves : Solves s blank map answer
-  pub holds : text ≡ line_of answer (atoms_in s) map
+  pub holds : Spells line (line_of answer (atoms_in s) map)

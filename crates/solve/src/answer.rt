@@ -19,7 +19,7 @@ fn atoms(sheet: &[u8]) -> usize
 
 // The line of the sheet's first model, or of why there is none.
 pub(crate) fn answer(sheet: &[u8]) -> Line
-    ensures { Prints sheet.now result.bytes }
+    ensures { Prints sheet.now result }
 {
     let mut map = [0u8; Atom::LAST];
     match solve(sheet, &mut map) {

@@ -1,6 +1,7 @@
 -- "The program writes one line: `MODEL` and the in-atoms, each after one space; or `NONE`; or `REFUSED` number place."
 -- A line is a list of bytes, and ends in a line feed. A number is written in decimal, with no leading zero.
-use Rattle.std.specs.Prelude.{ℕ, zero, suc, ◌+◌, ◌/◌, ◌%◌, Bool, true, false, cond, List, [], ◌∷◌, ◌++◌, get_or, eqb, ltb}
+use Rattle.std.specs.Prelude.{ℕ, zero, suc, ◌+◌, ◌/◌, ◌%◌, ◌≡◌, Bool, true, false, cond, List, [], ◌∷◌, ◌++◌, get_or, eqb, ltb}
+pub use Rattle.arrayvec.specs.ArrayString.{ArrayString, array_string_len}
 
 -- the byte of a digit below 10
 abbrev pub digit : ℕ → ℕ
@@ -57,3 +58,7 @@ none_line = none_word ++ feed
 
 unfoldable pub refused_line : ℕ → ℕ → List ℕ
 refused_line number place = refused_word ++ spaced number ++ spaced place ++ feed
+
+-- a line is this text
+abbrev pub Spells : ArrayString → List ℕ → Type 0
+Spells line text = line.bytes ≡ text

@@ -3,7 +3,7 @@
 
 ghost use Rattle.std.specs.Prelude.{min, ◌≡◌, ◌++◌};
 ghost use Rattle.rules.specs.Limits.{atoms_most};
-ghost use Rattle.text.specs.Line.{feed, model_line, none_line, refused_line};
+ghost use Rattle.text.specs.Line.{feed, model_line, none_line, refused_line, Spells};
 ghost use Rattle.text.specs.Inner.Put.{Fits};
 
 use arrayvec::ArrayString;
@@ -32,7 +32,7 @@ fn ended(text: Line) -> Line
 // The line of a model: the atoms of 1 to n whose byte in the map is 1, atom a at index a - 1. A sheet has no more atoms than
 // Atom::LAST, so a larger n counts as that.
 pub fn model_line(map: &[u8], n: usize) -> Line
-    ensures { result.bytes ≡ model_line (min n atoms_most) map.now }
+    ensures { Spells result (model_line (min n atoms_most) map.now) }
 {
     let mut line = Line::new();
     line.push_str("MODEL");
@@ -47,7 +47,7 @@ pub fn model_line(map: &[u8], n: usize) -> Line
 // The line that says that there is no model.
 #[tactic(auto, unfolding(crate::specs::Line::none_line))]
 pub fn none_line() -> Line
-    ensures { result.bytes ≡ none_line }
+    ensures { Spells result none_line }
 {
     let mut line = Line::new();
     line.push_str("NONE");
@@ -56,7 +56,7 @@ pub fn none_line() -> Line
 
 // The line of a refusal.
 pub fn refused_line(number: usize, place: usize) -> Line
-    ensures { result.bytes ≡ refused_line number place }
+    ensures { Spells result (refused_line number place) }
 {
     let mut line = Line::new();
     line.push_str("REFUSED");
