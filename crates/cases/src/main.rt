@@ -3,7 +3,7 @@
 
 mod show;
 
-use desk::{Checked, Solved, check, margin, open, pin, solve, test};
+use desk::{Solved, check, margin, open, pin, solve, test};
 use rules::Atom;
 use show::{show_checked, show_map, show_margin, show_opened, show_refusal, show_tested};
 use std::io;
@@ -11,8 +11,8 @@ use text::{model_line, none_line};
 
 fn atom_count(sheet: &[u8]) -> usize {
     match check(sheet) {
-        Checked::Accepted(n, _) => n,
-        Checked::Refused(_) => 0,
+        Ok(counts) => counts.atoms,
+        Err(_) => 0,
     }
 }
 
@@ -38,17 +38,17 @@ fn show_pin(
 fn show_solve(rt: &impl Print, sheet: &[u8], map: &mut [u8]) -> io::Result<()> {
     print!(rt; "  first")?;
     match solve(sheet, map) {
-        Solved::Model => {
+        Ok(Solved::Model) => {
             show_map(rt, map, atom_count(sheet))?;
             print!(rt; "  test")?;
             show_tested(rt, test(sheet, map))?;
             print!(rt; "  line {}", model_line(map, atom_count(sheet)))?;
         }
-        Solved::NoModel => {
+        Ok(Solved::NoModel) => {
             show_map(rt, map, atom_count(sheet))?;
             print!(rt; "  line {}", none_line())?;
         }
-        Solved::Refused(why) => show_refusal(rt, why)?,
+        Err(why) => show_refusal(rt, why)?,
     }
     Ok(())
 }

@@ -1,5 +1,5 @@
 // What the calls answer, as text on standard output.
-use desk::{Checked, MarginRead, Opened, Tested};
+use desk::Counts;
 use numbers::Refusal;
 use std::io;
 
@@ -12,39 +12,39 @@ pub(crate) fn show_map(rt: &impl Print, map: &[u8], n: usize) -> io::Result<()> 
 }
 
 pub(crate) fn show_refusal(rt: &impl Print, why: Refusal) -> io::Result<()> {
-    print!(rt; " refused by {} at {}", why.number, why.place)
+    print!(rt; " refused by {} at {}", why.reason.number(), why.place)
 }
 
-pub(crate) fn show_checked(rt: &impl Print, answer: Checked) -> io::Result<()> {
+pub(crate) fn show_checked(rt: &impl Print, answer: Result<Counts, Refusal>) -> io::Result<()> {
     match answer {
-        Checked::Accepted(n, rules) => print!(rt; " accepted, atoms {n}, rules {rules}")?,
-        Checked::Refused(why) => show_refusal(rt, why)?,
+        Ok(counts) => print!(rt; " accepted, atoms {}, rules {}", counts.atoms, counts.rules)?,
+        Err(why) => show_refusal(rt, why)?,
     }
     println!(rt)
 }
 
-pub(crate) fn show_opened(rt: &impl Print, answer: Opened) -> io::Result<()> {
+pub(crate) fn show_opened(rt: &impl Print, answer: Result<Option<usize>, Refusal>) -> io::Result<()> {
     match answer {
-        Opened::Closed(undecided) => print!(rt; " closed, undecided {undecided}")?,
-        Opened::Contradiction => print!(rt; " contradiction")?,
-        Opened::Refused(why) => show_refusal(rt, why)?,
+        Ok(Some(undecided)) => print!(rt; " closed, undecided {undecided}")?,
+        Ok(None) => print!(rt; " contradiction")?,
+        Err(why) => show_refusal(rt, why)?,
     }
     print!(rt; ":")
 }
 
-pub(crate) fn show_tested(rt: &impl Print, answer: Tested) -> io::Result<()> {
+pub(crate) fn show_tested(rt: &impl Print, answer: Result<bool, Refusal>) -> io::Result<()> {
     match answer {
-        Tested::Stable => print!(rt; " yes")?,
-        Tested::NotStable => print!(rt; " no")?,
-        Tested::Refused(why) => show_refusal(rt, why)?,
+        Ok(true) => print!(rt; " yes")?,
+        Ok(false) => print!(rt; " no")?,
+        Err(why) => show_refusal(rt, why)?,
     }
     println!(rt)
 }
 
-pub(crate) fn show_margin(rt: &impl Print, answer: MarginRead) -> io::Result<()> {
+pub(crate) fn show_margin(rt: &impl Print, answer: Result<i64, Refusal>) -> io::Result<()> {
     match answer {
-        MarginRead::Is(margin) => print!(rt; " {margin}")?,
-        MarginRead::Refused(why) => show_refusal(rt, why)?,
+        Ok(margin) => print!(rt; " {margin}")?,
+        Err(why) => show_refusal(rt, why)?,
     }
     println!(rt)
 }

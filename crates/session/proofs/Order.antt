@@ -5,7 +5,7 @@ use mathlib.Core.Path.{◌≡◌, sym, ◌∙◌}
 use mathlib.Core.List.{List}
 use Rattle.rules.specs.Rule.{Sheet, SameSet, Shuffled}
 use Rattle.desk.specs.Run.{Pin, accepted_of}
-use Rattle.desk.specs.declared.Opened.{Opened}
+use Rattle.desk.specs.Promise.{Opened}
 use Rattle.desk.proofs.Order.{order_whole}
 use Rattle.session.specs.Session.{SessionRun}
 use Rattle.session.specs.declared.Session.{Session}

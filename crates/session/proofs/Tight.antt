@@ -5,7 +5,7 @@ use mathlib.Core.Path.{◌≡◌, sym, ◌∙◌, ap}
 use mathlib.Core.List.{List}
 use Rattle.rules.specs.Map.{blank}
 use Rattle.desk.specs.Promise.{Opens, Pins}
-use Rattle.desk.specs.declared.Opened.{Opened}
+use Rattle.desk.specs.Promise.{Opened}
 use Rattle.desk.proofs.Tight.{opens_tight, pins_tight}
 use Rattle.session.specs.declared.Session.{Session}
 

@@ -4,7 +4,7 @@ use Rattle.std.specs.Prelude.{ℕ, ◌≡◌, List}
 use Rattle.rules.specs.Rule.{Sheet}
 use Rattle.rules.specs.Map.{blank}
 use Rattle.desk.specs.Run.{Pin, Run}
-use Rattle.desk.specs.declared.Opened.{Opened}
+use Rattle.desk.specs.Promise.{Opened}
 use Rattle.session.specs.declared.Session.{Session}
 
 pub record SessionRun (s : List ℕ) (sh : Sheet) (ps : List Pin) (session : Session) (r : Opened) : Type 0 where

@@ -6,19 +6,20 @@ ghost use Rattle.std.specs.Prelude.{◌≡◌};
 ghost use Rattle.desk.specs.Promise.{Opens, Pins};
 ghost use Rattle.rules.specs.Map.{blank};
 
-use desk::{Opened, open as open_map, pin as pin_map};
+use desk::{open as open_map, pin as pin_map};
+use numbers::Refusal;
 use rules::Atom;
 
-#[derive(Clone, Copy)]
+#[derive(Clone, Copy, Debug, PartialEq, Eq)]
 pub struct Session {
     pub map: [u8; Atom::LAST],
 }
 
 // What a call makes of a session: the session after it, and the answer.
-#[derive(Clone, Copy)]
+#[derive(Clone, Copy, Debug, PartialEq, Eq)]
 pub struct Turn {
     pub session: Session,
-    pub answer: Opened,
+    pub answer: Result<Option<usize>, Refusal>,
 }
 
 // "all 0 at first"
@@ -55,7 +56,7 @@ pub fn pinned(session: Session, s: &[u8], atom: usize, side: usize) -> Turn
 }
 
 // Open on the session's map.
-pub fn open(session: &mut Session, s: &[u8]) -> Opened
+pub fn open(session: &mut Session, s: &[u8]) -> Result<Option<usize>, Refusal>
     ensures { Opens s.now session.old.map session.new.map result }
 {
     let turn = opened(*session, s);
@@ -64,7 +65,7 @@ pub fn open(session: &mut Session, s: &[u8]) -> Opened
 }
 
 // Pin on the session's map.
-pub fn pin(session: &mut Session, s: &[u8], atom: usize, side: usize) -> Opened
+pub fn pin(session: &mut Session, s: &[u8], atom: usize, side: usize) -> Result<Option<usize>, Refusal>
     ensures { Pins s.now session.old.map atom side session.new.map result }
 {
     let turn = pinned(*session, s, atom, side);

@@ -4,16 +4,17 @@ ghost use Rattle.solve.specs.Answer.{atoms_in, Prints};
 
 use desk::{Solved, solve};
 use rules::Atom;
-use sheet::{SheetRead, read_sheet};
+use sheet::read_sheet;
 use text::{Line, model_line, none_line, refused_line};
 
 // How many atoms a sheet has; none where it is refused.
+#[tactic(auto, unfolding(crate::specs::Answer::atoms_in, numbers::specs::Answer::read_then))]
 fn atoms(sheet: &[u8]) -> usize
     ensures { result ≡ atoms_in sheet.now }
 {
     match read_sheet(sheet) {
-        SheetRead::Accepted(outline) => outline.atoms,
-        SheetRead::Refused(_) => 0,
+        Ok(outline) => outline.atoms,
+        Err(_) => 0,
     }
 }
 
@@ -23,8 +24,8 @@ pub(crate) fn answer(sheet: &[u8]) -> Line
 {
     let mut map = [0u8; Atom::LAST];
     match solve(sheet, &mut map) {
-        Solved::Model => model_line(&map, atoms(sheet)),
-        Solved::NoModel => none_line(),
-        Solved::Refused(why) => refused_line(why.number, why.place),
+        Ok(Solved::Model) => model_line(&map, atoms(sheet)),
+        Ok(Solved::NoModel) => none_line(),
+        Err(why) => refused_line(why.reason.number(), why.place),
     }
 }
