@@ -49,14 +49,14 @@ pub fn start<'a>(sheet: &'a [u8]) -> Reader<'a>
     }
 }
 
-// The rule at the reader's place and the place after it, or the end, or the refusal.
+// The rule at the reader's place and those after it, or the end, or the refusal.
 pub fn next<'a>(r: Reader<'a>) -> NextRule
     ensures { result ≡ next_of r.entry }
 {
     step_at(r.sheet, r.place)
 }
 
-// The reader at another place of its sheet: after a rule, at the place that came with it.
+// The reader at another place of its sheet: after a rule, before those that are left.
 pub fn moved<'a>(r: Reader<'a>, place: Place) -> Reader<'a>
     ensures { result ≡ moved_to r.entry place }
 {
@@ -68,12 +68,12 @@ pub fn moved<'a>(r: Reader<'a>, place: Place) -> Reader<'a>
 
 // The next step of a lent reader, which moves on past the rule that was read.
 pub fn advance<'s, 'a>(r: &'s mut Reader<'a>) -> NextRule
-    ensures { (result ≡ next_of r.old) × (r.new ≡ moved_on r.old) }
+    ensures step { result ≡ next_of r.old }
+    ensures after { r.new ≡ moved_on r.old }
 {
     let place = r.place;
     let step = step_at(r.sheet, place);
-    let after = place_after(step, place);
-    r.place = after;
+    r.place = place_after(step, place);
     step
 }
 
@@ -84,7 +84,7 @@ pub fn at_end<'a>(r: Reader<'a>) -> bool
     past_last(r.place)
 }
 
-// The first step on a sheet. Its caller has no reader, and goes on by `step_at` at the place that came with the rule.
+// The first step on a sheet. Its caller has no reader, and goes on by `step_at` at the rules that are left.
 pub fn first_step(s: &[u8]) -> NextRule
     ensures { result ≡ first_step s.now }
 {
