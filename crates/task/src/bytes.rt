@@ -6,9 +6,5 @@ pub fn copy(from: &[u8], n: usize, m: &mut [u8])
     requires { Room n from.now × Room n m.old }
     ensures { Copied n from.now m.old m.new }
 {
-    let mut i = 0;
-    while i < n {
-        m[i] = from[i];
-        i += 1;
-    }
+    m[..n].copy_from_slice(&from[..n]);
 }
