@@ -32,7 +32,7 @@ fn ground_heads(row: &TableRow, m: &[u8], u: &mut [u8]) -> Result<bool, Clash>
 {
     let mut grew = false;
     for j in row.heads()..row.positives() {
-        grew |= put_unless(row.atoms, m, table::atom_at(row.code, j), OUT, IN, u)?;
+        grew |= put_unless(row.atoms, m, row.atom(j), OUT, IN, u)?;
     }
     Ok(grew)
 }
@@ -44,7 +44,7 @@ fn misses(row: &TableRow, j: u32, m: &[u8], u: &[u8]) -> bool
     requires space { Room row.now.atoms u.now }
     ensures { Misses (side row.now.atoms m.now) (side row.now.atoms u.now) (pair_atom row.now.code.now j) result }
 {
-    let a = table::atom_at(row.code, j);
+    let a = row.atom(j);
     side_of(m, row.atoms, a) != OUT && side_of(u, row.atoms, a) != IN
 }
 

@@ -31,7 +31,7 @@ fn settle(row: &TableRow, m: &mut [u8]) -> Result<bool, Clash>
     if row.is_choice() {
         return Ok(false);
     }
-    let head = table::atom_at(row.code, row.heads());
+    let head = row.atom(row.heads());
     let x = side_of(m, row.atoms, head);
     let is_in = x == IN;
     if is_in {

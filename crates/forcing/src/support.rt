@@ -27,7 +27,7 @@ fn count_pair(row: &TableRow, j: u32, m: &[u8], counts: &mut [u8])
     requires space { Room row.now.atoms counts.old }
     ensures { Adds row.now.atoms (λ a. is 1 (side row.now.atoms m.now) a && eqb a (pair_atom row.now.code.now j)) counts.old counts.new }
 {
-    let a = table::atom_at(row.code, j);
+    let a = row.atom(j);
     let is_apart = side_of(m, row.atoms, a) != IN;
     if is_apart {
         return;
@@ -54,7 +54,7 @@ fn is_scarce(row: &TableRow, j: u32, m: &[u8], counts: &[u8], least: u8) -> bool
     requires space { Room row.now.atoms counts.now }
     ensures { Decides result (Scarce row.now.atoms (side row.now.atoms m.now) counts.now least (pair_atom row.now.code.now j)) }
 {
-    let a = table::atom_at(row.code, j);
+    let a = row.atom(j);
     let x = side_of(m, row.atoms, a);
     if x != IN {
         return false;

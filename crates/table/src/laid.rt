@@ -1,6 +1,7 @@
 // A table that is laid, and a row of it: what is known of their words goes with them.
 ghost use Rattle.std.specs.Prelude.{◌≤◌, ◌≡◌};
 ghost use Rattle.rules.specs.Rule.{chooses};
+ghost use Rattle.table.specs.Inner.Words.{pair_atom, pair_weight};
 ghost use Rattle.table.specs.Inner.Rows.{kind_at, need_at, heads_at, positives_at, negatives_at, end_at, Laid, Row};
 
 // The table of a sheet of so many atoms and rules.
@@ -51,6 +52,19 @@ impl<'a> TableRow<'a> {
         ensures { result ≡ chooses (kind_at self.now.code.now self.now.at) }
     {
         super::is_choice(self.code, self.at)
+    }
+
+    // The atom of pair j, and the weight of its literal.
+    pub fn atom(&self, j: u32) -> u32
+        ensures { result ≡ pair_atom self.now.code.now j }
+    {
+        super::atom_at(self.code, j)
+    }
+
+    pub fn weight(&self, j: u32) -> u32
+        ensures { result ≡ pair_weight self.now.code.now j }
+    {
+        super::weight_at(self.code, j)
     }
 
     pub fn need(&self) -> u32

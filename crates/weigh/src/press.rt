@@ -13,11 +13,11 @@ fn press_pair(row: &TableRow, j: u32, least: u32, v: u8, m: &mut [u8]) -> Result
     requires { PairAsks row.now.code.now row.now.atoms j v m.old }
     ensures { PressesPair row.now.code.now row.now.atoms j least v m.old m.new result }
 {
-    let weight = table::weight_at(row.code, j);
+    let weight = row.weight(j);
     if weight < least {
         return Ok(false);
     }
-    let a = table::atom_at(row.code, j);
+    let a = row.atom(j);
     let x = side_of(m, row.atoms, a);
     let is_decided = x != OPEN;
     if is_decided {

@@ -13,7 +13,7 @@ returns-in_err-grew c =
     rw (clashed _ c.from_residual.ensures.0)
     (heads_clash row.code.now row.atoms row.at a.m.now a.u.now row.stands c.requires.space (c.loop-j.j + 1) _
     (heads_more row.code.now row.atoms row.at a.m.now a.u.now row.stands c.requires.space c.loop-j.j _ _ _ c.loop-j.grew (Err (record {}))
-    (omega (arith, c.loop-j.auto.j, c.heads-j.ensures)) (omega (arith, c.loop-j-test.true, c.positives-j-end.ensures)) c.atom_at.ensures
+    (omega (arith, c.loop-j.auto.j, c.heads-j.ensures)) (omega (arith, c.loop-j-test.true, c.positives-j-end.ensures)) c.atom.ensures
     c.loop-j.invariant c.in_err-grew.ensures))
 
 pub loop-j-preserved : goal.loop-j-preserved
@@ -21,5 +21,5 @@ loop-j-preserved c =
     let a = c.args in
     let row = a.row.now in
     heads_more row.code.now row.atoms row.at a.m.now a.u.now row.stands c.requires.space c.loop-j.j _ _ _ c.loop-j.grew (Ok c.in_ok-grew.field-0)
-    (omega (arith, c.loop-j.auto.j, c.heads-j.ensures)) (omega (arith, c.loop-j-test.true, c.positives-j-end.ensures)) c.atom_at.ensures
+    (omega (arith, c.loop-j.auto.j, c.heads-j.ensures)) (omega (arith, c.loop-j-test.true, c.positives-j-end.ensures)) c.atom.ensures
     c.loop-j.invariant c.in_ok-grew.ensures

@@ -9,4 +9,4 @@ returns-then-is_in c =
     let a = c.args in
     let row = a.row.now in
     settle_in row.code.now row.atoms row.at a.m.now row.stands (must_give _ _ c.is_choice.ensures c.if-is_choice.false) _ _
-    (c.atom_at-head.ensures ∙ ap (pair_atom row.code.now) c.heads.ensures) c.side_of-x.ensures c.if-is_in.true c.requires
+    (c.atom-head.ensures ∙ ap (pair_atom row.code.now) c.heads.ensures) c.side_of-x.ensures c.if-is_in.true c.requires

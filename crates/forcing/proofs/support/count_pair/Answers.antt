@@ -13,7 +13,7 @@ use Rattle.forcing.proofs.support.count_pair.Goals as goal
 
 pub returns : goal.returns
 returns c =
-    let atom = c.atom_at-a.ensures in
+    let atom = c.atom-a.ensures in
     let a = c.args in
     let n = a.row.now.atoms in
     let at = pair_atom a.row.now.code.now a.j in

@@ -7,8 +7,8 @@ returns c =
     let a = c.args in
     pressed_put a.row.now.code.now a.row.now.atoms a.j a.least a.v a.m.now
     c.requires _ _ _ _ _
-    c.weight_at-weight.ensures
+    c.weight-weight.ensures
     c.if-weight-least.false
-    c.atom_at-a.ensures
+    c.atom-a.ensures
     c.side_of-x.ensures c.if-is_decided.false
     c.put.ensures
