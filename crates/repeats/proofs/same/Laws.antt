@@ -138,24 +138,3 @@ module _ (c : List ℕ) (i k : ℕ) (one : Filled c i) (two : Filled c k) where
       (b : Bool) → (SameRuns c (heads_at c i) (end_at c i) (heads_at c k) → SameParts c i k)
       → Decides b (SameRuns c (heads_at c i) (end_at c i) (heads_at c k)) → Decides b (row_rule c i ≡ row_rule c k)
   rule_told b parts = decides_as b (λ runs. rule_of_parts (parts runs)) (λ same. (parts_of_rule same).runs)
-
--- the pairs from one place to before j are those from another on
-module _ (c : List ℕ) (from other j : ℕ) (low : from ≤ j) (passed : SameRuns c from j other) where
-  pub one_passed :
-      pair_atom c j ≡ pair_atom c (other + (j - from)) → pair_weight c j ≡ pair_weight c (other + (j - from)) → SameRuns c from (j + 1) other
-  one_passed atoms weights x h =
-      ⊎_elim (λ (l : x < j - from). passed x l)
-      (λ (l : j - from ≤ x). pair_there c (omega arith) (omega arith) (ap₂ weighted atoms weights)) (below? x (j - from))
-
--- a pair that differs from its own
-pub runs_differ :
-    (c : List ℕ) (from other j to : ℕ) → from ≤ j → j < to
-    → (pair_atom c j ≡ pair_atom c (other + (j - from)) → pair_weight c j ≡ pair_weight c (other + (j - from)) → ⊥)
-    → Decides false (SameRuns c from to other)
-runs_differ c from other j to low high apart =
-    record {
-      decides =
-          λ same.
-          let pair : pair_at c j ≡ pair_at c (other + (j - from)) = pair_there c (omega arith) refl (same (j - from) (omega arith)) in
-          apart (ap (λ l. l.atom) pair) (ap (λ l. l.weight) pair);
-    }
