@@ -12,6 +12,9 @@ use numbers::take_number;
 use repeats::{carried, mixed};
 use table::PAIR;
 
+// The sheet and the table stay two parameters beside it: a struct of the two loans would be taken apart again by each function, which reads
+// the one and writes the other.
+//
 // How far writing has come: the pair after what was written, and the place after what was taken from the sheet; and the mark with it.
 #[derive(Clone, Copy, Debug, PartialEq, Eq)]
 pub(crate) struct Reached {

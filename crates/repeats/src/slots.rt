@@ -30,6 +30,7 @@ impl Kept {
         ensures { Finds code.now self.now k from result }
     {
         let mut number = from;
+        // kept as a while: it follows links and counts no index
         while number != 0 {
             let row = u32::from(number - 1);
             if same_rule(code, row, k) {

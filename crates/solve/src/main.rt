@@ -19,6 +19,7 @@ fn read_all(reader: &mut impl Read, buffer: &mut [u8]) -> io::Result<usize>
     ensures { IfOk result (InBuffer buffer.new) }
 {
     let mut len = 0;
+    // kept by hand: a read gives as many bytes as it will, and there is no heap for read_to_end
     while len < buffer.len() {
         let more = reader.read(&mut buffer[len..])?;
         if more == 0 {

@@ -1,17 +1,20 @@
 -- Two rows have the same rule exactly when their words tell the same: each list of a rule is a run of pairs, two runs are the same list
 -- when they are as long and the same pair by pair, and heads weigh 1, so that their atoms are all there is to tell.
 use Rattle.std.proofs.Common.{◌≡◌, ℕ, zero, suc, ◌+◌, ◌-◌, ◌<◌, ◌≤◌, Bool, false, List, ◌∷◌, length, sym, refl, ap, ◌∙◌, ap₂, ⊎_elim, arith}
-use Rattle.rules.specs.declared.kind.Kind.{Kind}
 use Rattle.rules.specs.Rule.{Rule, weighted, atoms_of, ones}
 use Rattle.rules.specs.Inner.Decides.{Decides}
 use Rattle.rules.proofs.Tests.{below?}
 use Rattle.rules.proofs.Decides.{decides_as}
 use Rattle.rules.proofs.Same.{rule_made}
 use Rattle.table.specs.Inner.Words.{pair_atom, pair_weight, pair_at, pairs_from, seg, seg_atoms}
-use Rattle.table.specs.Inner.Rows.{heads_at, positives_at, negatives_at, end_at, row_rule}
+use Rattle.table.specs.Inner.Rows.{kind_at, need_at, heads_at, positives_at, negatives_at, end_at, row_rule}
 use Rattle.table.proofs.parts.Laws.{seg_length}
-use Rattle.repeats.specs.declared.same.Shape.{Shape}
-use Rattle.repeats.specs.Inner.Same.{SameRuns, Filled, shape_at}
+use Rattle.repeats.specs.Inner.Same.{SameRuns, Filled}
+
+-- places that were read are as far apart as those that stand there
+pub as_far :
+    {a b d e p q r s : ℕ} → p ≡ a → q ≡ b → r ≡ d → s ≡ e → p - q ≡ r - s → a - b ≡ d - e
+as_far f g h k same = ap₂ ◌-◌ (sym f) (sym g) ∙ same ∙ ap₂ ◌-◌ h k
 
 -- two runs that are as long and the same pair by pair
 record Alike (c : List ℕ) (from to other end : ℕ) : Type 0 where
@@ -96,14 +99,12 @@ module _ (c : List ℕ) where
 
 -- two rows whose words tell the same rule
 pub record SameParts (c : List ℕ) (i k : ℕ) : Type 0 where
-  pub shape : shape_at c i ≡ shape_at c k
+  pub kind : kind_at c i ≡ kind_at c k
+  pub need : need_at c i ≡ need_at c k
+  pub positives : positives_at c i - heads_at c i ≡ positives_at c k - heads_at c k
+  pub negatives : negatives_at c i - heads_at c i ≡ negatives_at c k - heads_at c k
+  pub count : end_at c i - heads_at c i ≡ end_at c k - heads_at c k
   pub runs : SameRuns c (heads_at c i) (end_at c i) (heads_at c k)
-
-shape_made :
-    {a b : Kind} {d e f g h l m n : ℕ} → a ≡ b → d ≡ e → f ≡ g → h ≡ l → m ≡ n
-    → ◌≡◌ {A = Shape} (record { kind = a; need = d; heads = f; positives = h; all = m })
-    (record { kind = b; need = e; heads = g; positives = l; all = n })
-shape_made p q r s t = rw (p, q, r, s, t) refl
 
 module _ (c : List ℕ) (i k : ℕ) (one : Filled c i) (two : Filled c k) where
   parts_of_rule : row_rule c i ≡ row_rule c k → SameParts c i k
@@ -115,46 +116,25 @@ module _ (c : List ℕ) (i k : ℕ) (one : Filled c i) (two : Filled c k) where
       let all : Alike c (heads_at c i) (end_at c i) (heads_at c k) (end_at c k) =
       join c (omega arith) most (runs_of_seg c _ _ _ _ (ap (λ (r : Rule). r.neg) same)) in
       record {
-        shape = shape_made (ap (λ (r : Rule). r.kind) same) (ap (λ (r : Rule). r.need) same) heads.long most.long all.long;
+        kind = ap (λ (r : Rule). r.kind) same;
+        need = ap (λ (r : Rule). r.need) same;
+        positives = heads.long;
+        negatives = most.long;
+        count = all.long;
         runs = all.runs;
       }
 
   rule_of_parts : SameParts c i k → row_rule c i ≡ row_rule c k
   rule_of_parts parts =
-      let heads = ap (λ (s : Shape). s.heads) parts.shape in
-      let positives = ap (λ (s : Shape). s.positives) parts.shape in
-      rule_made (ap (λ (s : Shape). s.kind) parts.shape)
-      (ap atoms_of (part c _ _ _ _ _ _ _ (omega arith) (omega arith) heads parts.runs))
-      (ap (λ (s : Shape). s.need) parts.shape)
-      (part c _ _ _ _ _ _ _ (omega arith) heads positives parts.runs)
-      (part c _ _ _ _ _ _ _ (omega arith) positives (ap (λ (s : Shape). s.all) parts.shape) parts.runs)
+      rule_made parts.kind (ap atoms_of (part c _ _ _ _ _ _ _ (omega arith) (omega arith) parts.positives parts.runs)) parts.need
+      (part c _ _ _ _ _ _ _ (omega arith) parts.positives parts.negatives parts.runs)
+      (part c _ _ _ _ _ _ _ (omega arith) parts.negatives parts.count parts.runs)
 
-  pub rule_differs : (shape_at c i ≡ shape_at c k → ⊥) → Decides false (row_rule c i ≡ row_rule c k)
-  rule_differs apart = record { decides = λ same. apart (parts_of_rule same).shape }
+  pub rule_differs : (SameParts c i k → ⊥) → Decides false (row_rule c i ≡ row_rule c k)
+  rule_differs apart = record { decides = λ same. apart (parts_of_rule same) }
 
-  -- where the shape is the same, the pairs tell
+  -- where all else is the same, the pairs tell
   pub rule_told :
-      (b : Bool) → shape_at c i ≡ shape_at c k
+      (b : Bool) → (SameRuns c (heads_at c i) (end_at c i) (heads_at c k) → SameParts c i k)
       → Decides b (SameRuns c (heads_at c i) (end_at c i) (heads_at c k)) → Decides b (row_rule c i ≡ row_rule c k)
-  rule_told b shape = decides_as b (λ runs. rule_of_parts (record { shape = shape; runs = runs })) (λ same. (parts_of_rule same).runs)
-
--- the pairs from one place to before j are those from another on
-module _ (c : List ℕ) (from other j : ℕ) (low : from ≤ j) (passed : SameRuns c from j other) where
-  pub one_passed :
-      pair_atom c j ≡ pair_atom c (other + (j - from)) → pair_weight c j ≡ pair_weight c (other + (j - from)) → SameRuns c from (j + 1) other
-  one_passed atoms weights x h =
-      ⊎_elim (λ (l : x < j - from). passed x l)
-      (λ (l : j - from ≤ x). pair_there c (omega arith) (omega arith) (ap₂ weighted atoms weights)) (below? x (j - from))
-
--- a pair that differs from its own
-pub runs_differ :
-    (c : List ℕ) (from other j to : ℕ) → from ≤ j → j < to
-    → (pair_atom c j ≡ pair_atom c (other + (j - from)) → pair_weight c j ≡ pair_weight c (other + (j - from)) → ⊥)
-    → Decides false (SameRuns c from to other)
-runs_differ c from other j to low high apart =
-    record {
-      decides =
-          λ same.
-          let pair : pair_at c j ≡ pair_at c (other + (j - from)) = pair_there c (omega arith) refl (same (j - from) (omega arith)) in
-          apart (ap (λ l. l.atom) pair) (ap (λ l. l.weight) pair);
-    }
+  rule_told b parts = decides_as b (λ runs. rule_of_parts (parts runs)) (λ same. (parts_of_rule same).runs)

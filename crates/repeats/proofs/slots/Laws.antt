@@ -1,6 +1,6 @@
 -- Links lead down, so a row that is met from a number is met from each number on the way until it is passed, and what is written at a
 -- higher index changes nothing. A row is entered in front of those that its slot had, so all of them are met as before.
-use Rattle.std.specs.Prelude.{Some, None}
+use Rattle.std.specs.Prelude.{None}
 use Rattle.std.proofs.Common.{◌≡◌, ℕ, ◌+◌, ◌-◌, ◌%◌, ◌<◌, ◌≤◌, not, T, eqb, ◌⊎◌, List, length, get_or, set, sym, refl, ap, ◌∙◌, subst, inl, inr, ⊎_elim, arith, length-set, get_or-set_other, get_or-set_same, below_more}
 use Rattle.rules.specs.Limits.{rules_most}
 use Rattle.rules.specs.Rule.{Rule}
@@ -8,7 +8,7 @@ use Rattle.rules.proofs.Tests.{T_eq, T_ne, decided}
 use Rattle.table.specs.Inner.Rows.{row_rule}
 use Rattle.repeats.specs.Inner.Marks.{slot_count, rule_mark}
 use Rattle.repeats.specs.declared.slots.Kept.{Kept}
-use Rattle.repeats.specs.Inner.Slots.{Reaches, here, onward, Entered, Indexed, FindAsks, Finds, EnterAsks, entered_in, KeepAsks, KeptOnce}
+use Rattle.repeats.specs.Inner.Slots.{Reaches, here, onward, Entered, Indexed, FindAsks, Finds, entered_in, KeepAsks, KeptOnce}
 
 none_from_zero : {links : List ℕ} {p q : ℕ} → q ≡ 0 → Reaches links p q → ⊥
 none_from_zero z (here q e) = omega arith
@@ -35,9 +35,6 @@ pub record Finding (c : List ℕ) (kept : Kept) (k from number : ℕ) : Type 0 w
   pub left : (p : ℕ) → p < k → row_rule c p ≡ row_rule c k → Reaches kept.links p from → Reaches kept.links p number
 
 module _ (c : List ℕ) (kept : Kept) (k from : ℕ) where
-  pub find_begins : FindAsks c kept k from → Finding c kept k from from
-  find_begins asks = record { low = asks.low; left = λ p h same r. r }
-
   pub find_done : (number : ℕ) → number ≡ 0 → Finding c kept k from number → Finds c kept k from None
   find_done number z finding p h r same = none_from_zero z (finding.left p h same r)
 
@@ -125,23 +122,6 @@ module _ (c : List ℕ) (kept : Kept) (k mark : ℕ) (asks : KeepAsks c kept k m
   pub slot_low : mark % slot_count < slot_count
   unfolding slot_count
   slot_low = omega arith
-
-  -- what finding and entering ask
-  pub find_asks : FindAsks c kept k (get_or kept.slots (mark % slot_count) 0)
-  find_asks =
-      record {
-        filled = asks.filled;
-        low = asks.index.top (mark % slot_count);
-        few = asks.few;
-        down = asks.index.down;
-      }
-
-  pub enter_asks : EnterAsks (mark % slot_count) k
-  enter_asks = record { there = slot_low; few = asks.few }
-
-  pub was_found : (r : ℕ) → Finds c kept k (get_or kept.slots (mark % slot_count) 0) (Some r) → KeptOnce c k kept kept r
-  was_found r finds =
-      record { low = omega (arith, finds.0); repeat = λ l. (finds.1, refl); new = λ e. absurd (omega (arith, finds.0)) }
 
   -- no row with the rule is met, and row k is entered
   pub was_new :

@@ -2,8 +2,7 @@
 use Rattle.std.specs.Prelude.{◌≡◌, ℕ, ◌+◌, ◌-◌, ◌<◌, ◌≤◌, List}
 use Rattle.rules.specs.Limits.{number_most}
 use Rattle.table.specs.Inner.Words.{pair_at, pair_weight}
-use Rattle.table.specs.Inner.Rows.{kind_at, need_at, heads_at, positives_at, negatives_at, end_at}
-use Rattle.repeats.specs.declared.same.Shape.{Shape}
+use Rattle.table.specs.Inner.Rows.{heads_at, positives_at, negatives_at, end_at}
 
 -- the pairs from one place to before another are those from a third place on
 abbrev pub SameRuns : List ℕ → ℕ → ℕ → ℕ → Type 0
@@ -15,14 +14,3 @@ pub record Filled (c : List ℕ) (i : ℕ) : Type 0 where
   pub order : (positives_at c i ≤ negatives_at c i) × (negatives_at c i ≤ end_at c i)
   pub far : end_at c i ≤ number_most
   pub ones : (j : ℕ) → heads_at c i ≤ j → j < positives_at c i → pair_weight c j ≡ 1
-
--- kind, need, and how many pairs the heads of row i are, they and its positive literals, and all
-abbrev pub shape_at : List ℕ → ℕ → Shape
-shape_at c i =
-    record {
-      kind = kind_at c i;
-      need = need_at c i;
-      heads = positives_at c i - heads_at c i;
-      positives = negatives_at c i - heads_at c i;
-      all = end_at c i - heads_at c i;
-    }
