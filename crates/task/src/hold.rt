@@ -28,7 +28,7 @@ fn hold_pairs(row: &TableRow, from: u32, to: u32, inside: bool, m: &mut [u8]) ->
     ensures { Takes row.now.atoms m.old (map (signed inside) (seg_atoms row.now.code.now from to)) m.new result }
 {
     for j in from..to {
-        hold_atom(row.atoms, table::atom_at(row.code, j), inside, m)?;
+        hold_atom(row.atoms, row.atom(j), inside, m)?;
     }
     Ok(())
 }
