@@ -276,6 +276,7 @@ module _ (s : List ℕ) where
 
   -- the rule that is taken at a place is the one that was read
   pub record RuleIs (at : ℕ) (r : SheetRule) : Type 0 where
+    pub kind : kind_number (rule_taken s at).kind ≡ (taken_at s at).value
     pub rule : rule_taken s at ≡ rule_meant s r
     pub next : rule_past s at ≡ r.next
 
@@ -285,11 +286,12 @@ module _ (s : List ℕ) where
       let g = cases s n at r e in
       let t = taken_read s at g.0 g.1 in
       let kind : kind_of (taken_at s at).value ≡ g.2 = ap (λ (q : Span). kind_of q.value) t ∙ ap kind_of g.3 ∙ kind_written g.2 in
-      taken (subst (λ (k : Kind). KindIs k (taken_at s at).next r) (sym kind)
+      taken (ap (λ (k : Kind). kind_number k) kind ∙ sym (ap (λ (q : Span). q.value) t ∙ g.3))
+      (subst (λ (k : Kind). KindIs k (taken_at s at).next r) (sym kind)
       (subst (λ (p : ℕ). KindIs g.2 p r) (sym (ap (λ (q : Span). q.next) t)) (kind_is n g.0.next r g.2 g.4)))
     where
-      taken : KindIs (kind_taken s at) (taken_at s at).next r → RuleIs at r
-      taken h = record { rule = h.rule; next = h.next }
+      taken : kind_number (kind_taken s at) ≡ (taken_at s at).value → KindIs (kind_taken s at) (taken_at s at).next r → RuleIs at r
+      taken kind h = record { kind = kind; rule = h.rule; next = h.next }
 
   -- the compute lists after the rules, as the body of a choice with no heads
   pub record ListsAre (at : ℕ) (ins outs : List ℕ) : Type 0 where
