@@ -1,4 +1,5 @@
-// Each call: its gate, its work on the sheet's table, and its answer handed over.
+// Each call: its gate, its work on the sheet's table, and its answer handed over. A rule, a part, an atom and a side come as the plain numbers
+// that the C interface has; the gate makes typed values of them.
 ghost use Rattle.rules.specs.Rule.{Within};
 ghost use Rattle.rules.specs.Inner.Bytes.{Room, MapBytes};
 ghost use Rattle.desk.specs.Promise.{Checks, Parts, Opens, Pins, Solves, Tests, Margins};

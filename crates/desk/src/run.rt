@@ -32,7 +32,8 @@ fn on_words<const W: usize, R, F: FnOnce(Table<'_>, TableRow<'_>) -> R>(
     work(table, table.row(done.row as u32))
 }
 
-// The call's work on the table of an accepted sheet, and on the row of the rule at an index. A shorter sheet has a smaller table.
+// The call's work on the table of an accepted sheet, and on the row of the rule at an index. A shorter sheet has a smaller table: five sizes, since
+// an array's size is a constant and there is no heap.
 pub(crate) fn on_table<R, F: FnOnce(Table<'_>, TableRow<'_>) -> R>(
     s: &[u8],
     sheet: Outline,

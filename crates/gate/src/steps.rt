@@ -1,6 +1,6 @@
 // The steps of the gates: each tests one thing of a sheet of n atoms, or of so many rules.
 ghost use Rattle.std.specs.Prelude.{◌≡◌};
-ghost use Rattle.gate.specs.Gate.{room, pin, rule, map_bytes, model_bytes, no_contradiction, then_give, pin_of, rule_of};
+ghost use Rattle.gate.specs.Gate.{room, pin, rule, no_fault, map_bytes, model_bytes, no_contradiction, then_give, pin_of, rule_of};
 
 use super::Pin;
 use super::scan::{is_contradiction, map_fault, model_fault};
@@ -18,7 +18,7 @@ pub fn room(n: usize, m: &[u8]) -> Result<(), Refusal>
     Ok(())
 }
 
-// 11: "pinned atom 0 or above n, or side not 1 or 2".
+// 11: "pinned atom 0 or above n, or side not 1 or 2". The side comes as the number that the C interface has.
 #[tactic(auto, unfolding(crate::specs::Gate::stop_if, rules::specs::Sum::pick, crate::specs::Gate::then_give, numbers::specs::Answer::read_then, rules::specs::Number::checked_atom))]
 pub(crate) fn pin(n: usize, atom: usize, side: usize) -> Result<Pin, Refusal>
     ensures { result ≡ then_give (pin_of atom side) (pin n atom side) }
@@ -43,28 +43,29 @@ pub(crate) fn rule(count: usize, number: usize) -> Result<RuleNo, Refusal>
     RuleNo::checked(number, count).ok_or(Reason::NoRule.at(0))
 }
 
-// 12: "map byte not allowed".
+// 12: "map byte not allowed", where a fault was found below n.
 #[tactic(auto, unfolding(crate::specs::Gate::stop_if, rules::specs::Sum::pick))]
-pub(crate) fn map_bytes(n: usize, m: &[u8]) -> Result<(), Refusal>
-    ensures { result ≡ map_bytes n m.now }
+fn no_fault(n: usize, place: usize) -> Result<(), Refusal>
+    ensures { result ≡ no_fault n place }
 {
-    let place = map_fault(m, n);
     if place < n {
         return Err(Reason::BadMapByte.at(place));
     }
     Ok(())
 }
 
+// 12 of a map.
+pub(crate) fn map_bytes(n: usize, m: &[u8]) -> Result<(), Refusal>
+    ensures { result ≡ map_bytes n m.now }
+{
+    no_fault(n, map_fault(m, n))
+}
+
 // 12 of a map of 1s and 2s.
-#[tactic(auto, unfolding(crate::specs::Gate::stop_if, rules::specs::Sum::pick))]
 pub fn model_bytes(n: usize, m: &[u8]) -> Result<(), Refusal>
     ensures { result ≡ model_bytes n m.now }
 {
-    let place = model_fault(m, n);
-    if place < n {
-        return Err(Reason::BadMapByte.at(place));
-    }
-    Ok(())
+    no_fault(n, model_fault(m, n))
 }
 
 // 14: "margin asked on a contradiction".

@@ -1,13 +1,13 @@
-// The four kinds of rules, and the numbers by which a sheet writes them.
+// The four kinds of rules, each with the number by which a sheet writes it.
 ghost use Rattle.std.specs.Prelude.{◌≡◌};
 ghost use Rattle.rules.specs.Rule.{kind_number, kind_of, checked_kind};
 
 #[derive(Clone, Copy, Debug, PartialEq, Eq)]
 pub enum Kind {
-    Basic,
-    Constraint,
-    Choice,
-    Weight,
+    Basic = 1,
+    Constraint = 2,
+    Choice = 3,
+    Weight = 5,
 }
 
 impl Kind {
@@ -15,12 +15,7 @@ impl Kind {
     pub fn number(self) -> usize
         ensures { result ≡ kind_number self }
     {
-        match self {
-            Kind::Basic => 1,
-            Kind::Constraint => 2,
-            Kind::Choice => 3,
-            Kind::Weight => 5,
-        }
+        self as usize
     }
 
     // The kind of a number that is a kind's; of any other, a weight rule's.

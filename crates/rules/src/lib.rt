@@ -8,6 +8,8 @@ mod kind;
 
 pub use kind::Kind;
 
+// Two types, each with its own constants and checked function, as the scope paper names the form for this place: "An atom number and a rule
+// number are different kinds of number and must not be mixed."
 // An atom of a sheet, 1 to the sheet's atom count. Only `checked` makes one.
 #[derive(Clone, Copy, Debug, PartialEq, Eq)]
 pub struct Atom {

@@ -1,5 +1,6 @@
 // A desk session: one record with a map of its own, with room for every sheet, which open and pin change in place.
-// The functions on a lent session are thin: each hands the record over by value, and takes back what it became.
+// The functions on a lent session are thin: each hands the record over by value, and takes back what it became; both kinds are the form that
+// the scope paper names for this place.
 #![tactic(auto)]
 
 ghost use Rattle.std.specs.Prelude.{◌≡◌};
@@ -65,7 +66,12 @@ pub fn open(session: &mut Session, s: &[u8]) -> Result<Option<usize>, Refusal>
 }
 
 // Pin on the session's map.
-pub fn pin(session: &mut Session, s: &[u8], atom: usize, side: usize) -> Result<Option<usize>, Refusal>
+pub fn pin(
+    session: &mut Session,
+    s: &[u8],
+    atom: usize,
+    side: usize,
+) -> Result<Option<usize>, Refusal>
     ensures { Pins s.now session.old.map atom side session.new.map result }
 {
     let turn = pinned(*session, s, atom, side);

@@ -15,7 +15,8 @@ pub use rule::read_rule;
 use rules::Atom;
 pub use sheet::{BYTES_MOST, read_sheet};
 
-// The four kinds as they stand on a sheet, each with its own head part: a head, a head and a bound, or a list of heads.
+// The four kinds as they stand on a sheet, each with its own head part: a head, a head and a bound, or a list of heads: the form that
+// the scope paper names for this place.
 #[derive(Clone, Copy, Debug, PartialEq, Eq)]
 pub enum SheetKind {
     Basic(Atom),

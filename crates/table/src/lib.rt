@@ -25,7 +25,8 @@ pub fn word(code: &[u32], i: usize) -> u32
     code.get(i).copied().unwrap_or(0)
 }
 
-// The atom of pair j, and the weight of its literal.
+// What stands in each column of a pair and of a row has a function and a definition of its own: one function over a column's number would say
+// less. The atom of pair j, and the weight of its literal.
 #[tactic(auto, unfolding(crate::specs::Inner::Words::pair_width, crate::specs::Inner::Words::pair_atom))]
 pub fn atom_at(code: &[u32], j: u32) -> u32
     ensures { result ≡ pair_atom code.now j }
