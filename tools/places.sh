@@ -6,7 +6,7 @@ list() {
     1a) grep -rnE '^ *(pub(\(crate\))? )?enum ' crates/*/src ;;
     1b) grep -rnE '^ +(pub )?[a-z_]+: bool,$' crates/*/src ;;
     1c) grep -rnE 'kind: usize|number: usize|side: (usize|u8)|given: u8|other: u8|(refused|stop)\([0-9]|number: [0-9]+,|part: usize' crates/*/src ;;
-    2) grep -rnE 'fn (refused|stop|checked|number|[a-z]+_gate|model_bytes|map_bytes|pair_item|short_[a-z]+|weigh[a-z_]*|press_[a-z]+|hand_[a-z]+|copy_[a-z]+|put_[a-z]+|of_[a-z]+|show_[a-z]+|[a-z]+_(at|there))\b|(FEW|SOME|MANY|LARGE)_(BYTES|WORDS): usize' crates/*/src ;;
+    2) grep -rnE 'fn (refused|stop)\(number|fn (checked|number)\(|fn (open|solve)_gate\(|fn (map|model)_bytes\(|fn hand_(map|model)\(|fn of_[a-z]+\(|fn put_(model|none|refused)\(|fn (take|read)_number\(|fn (atom|weight)_(at|there)\(|fn (need|heads|positives|negatives|end)_at\(|(FEW|SOME|MANY|LARGE)_(BYTES|WORDS): usize' crates/*/src ;;
     3) grep -rnE '^ *(while |loop |let [a-z_]+ = .*loop )' crates/*/src ;;
     4) grep -rnE 'fn (is_[a-z]+|either|lesser|wide|widened|size|one_more|meets[a-z_]*|join|say[a-z_]*|spanned|put_number|last_digit|raised|digit)\b' crates/*/src ;;
     5a) grep -rnE '(requires|ensures)( [a-z_]+)? \{.*×' crates/*/src ;;

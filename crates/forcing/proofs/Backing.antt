@@ -23,7 +23,7 @@ use Rattle.std.specs.Prelude.{Ok}
 use Rattle.weigh.proofs.Bytes.{proper_map}
 use Rattle.weigh.proofs.Steps.{kept_refl, step_same, quieter}
 use Rattle.forcing.specs.Inner.Support.{supporters, Counts, Scarce, ScarceHead, Backed, Backs}
-use Rattle.forcing.proofs.HeadScans.{Sofar, scan_more, scan_end}
+use Rattle.forcing.proofs.HeadScans.{Sofar, scan_end}
 use Rattle.forcing.proofs.Counting.{one_told, told_one_in}
 
 module _ (c : List ℕ) (n i : ℕ) (M : Map) (counts : List ℕ) (least : ℕ) where

@@ -27,7 +27,7 @@ use Rattle.weigh.specs.Inner.Step.{Outcome, Step, Till, Kept, Forces}
 use Rattle.std.specs.Prelude.{Ok, Err, Option, Some, None, is_some, count_by, position, nat_lt, ◌==◌}
 use Rattle.weigh.specs.declared.Clash.{Clash}
 use Rattle.weigh.proofs.Bytes.{proper_map, equal?}
-use Rattle.weigh.proofs.Steps.{kept_refl, kept_trans, forces_refl, forces_trans, step_same, quieter, step_joined}
+use Rattle.weigh.proofs.Steps.{kept_refl, kept_trans, forces_trans, step_same, quieter, step_joined}
 use Rattle.forcing.specs.Inner.Heads.{Settled, SettlesAll}
 use Rattle.forcing.specs.Inner.Support.{Counts, Backed, BacksAll}
 use Rattle.forcing.specs.Inner.Ground.{ListsFounded, Drops, Unless}

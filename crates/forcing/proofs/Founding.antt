@@ -22,7 +22,7 @@ use Rattle.table.proofs.Rows.{Standing, rule_stands}
 use Rattle.weigh.specs.Inner.Step.{Concludes, Kept, Outcome, Till, Forces}
 use Rattle.std.specs.Prelude.{Ok, Err}
 use Rattle.weigh.specs.declared.Clash.{Clash}
-use Rattle.weigh.proofs.Steps.{after, kept_refl, kept_trans, forces_refl, forces_trans, concludes_on, clash_any, steps_begin, steps_more, steps_end}
+use Rattle.weigh.proofs.Steps.{after, kept_refl, kept_trans, forces_trans, concludes_on, clash_any, steps_more, steps_end}
 use Rattle.forcing.specs.Inner.Ground.{PutsUnless, Unless, Grounding, Grounded, GroundsAll, Blank, ListsFounded, Drops}
 use Rattle.forcing.proofs.Groundings.{sided_out, kept_unless, step_unless}
 

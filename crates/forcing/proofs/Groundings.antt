@@ -20,9 +20,9 @@ use Rattle.weigh.specs.Inner.Step.{Concludes, Decided, Kept, Outcome, Step, Till
 use Rattle.std.specs.Prelude.{Ok, Err}
 use Rattle.weigh.specs.declared.Clash.{Clash}
 use Rattle.weigh.proofs.Bytes.{equal?}
-use Rattle.weigh.proofs.Steps.{after, kept_refl, kept_trans, kept_put, concludes_on, step_same, quieter, steps_begin, steps_more, steps_end, step_put, clash_any}
+use Rattle.weigh.proofs.Steps.{after, kept_refl, kept_trans, kept_put, concludes_on, step_same, quieter, steps_more, steps_end, step_put, clash_any}
 use Rattle.forcing.specs.Inner.Ground.{PutsUnless, Unless, Grounding, Grounded, Full, Lacks, Misses, GroundsHeads, GroundsRule}
-use Rattle.forcing.proofs.HeadScans.{Sofar, scan_more, scan_end}
+use Rattle.forcing.proofs.HeadScans.{Sofar, scan_end}
 
 pub sided_in : Decided 1
 sided_in = record { low = omega arith; high = omega arith }

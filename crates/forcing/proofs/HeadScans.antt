@@ -16,11 +16,6 @@ module _ (c : List ℕ) (i : ℕ) (Fine : ℕ → Type 0) where
   abbrev pub Sofar : ℕ → Type 0
   Sofar j = (k : ℕ) → heads_at c i ≤ k → k < j → Fine (pair_atom c k)
 
-  pub scan_more : (j : ℕ) → Fine (pair_atom c j) → Sofar j → Sofar (j + 1)
-  scan_more j f all k low high =
-      ⊎_elim (λ (o : k ≡ j). subst (λ (x : ℕ). Fine (pair_atom c x)) (sym o) f) (λ (h : k < j). all k low h)
-      (eq-or-lt_of_le (omega arith))
-
   pub scan_end : (j : ℕ) → positives_at c i ≤ j → Sofar j → (a : ℕ) → T (has a (row_rule c i).heads) → Fine a
   scan_end j b all a t =
       let f : AtomFound c (heads_at c i) (positives_at c i) a = atoms_listed c (heads_at c i) (positives_at c i) a t in

@@ -11,7 +11,7 @@ use super::pass::place;
 use table::{Table, TableRow};
 use weigh::{Clash, IN, OUT, Seen, put, side_of, weigh_rule};
 
-// Put atom a on a side in w, unless it has the given side in m.
+// Put atom a on a side in w, unless it has the given side in m. A side is a byte of a map, by name.
 fn put_unless(n: u32, m: &[u8], a: u32, given: u8, v: u8, w: &mut [u8]) -> Result<bool, Clash>
     requires within { Within n a }
     requires map { MapBytes n m.now }

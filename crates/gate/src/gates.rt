@@ -1,5 +1,6 @@
 // The gates of the calls: "Number 9 is tested first, then the sheet in reading order, then 10, 11, 13, 12, 14, as far as the call has such
-// an input." Each hands on the sheet, and the pin or the rule that was let through with it.
+// an input." Each hands on the sheet, and the pin or the rule that was let through with it. Atom, side and rule number come as the plain numbers
+// that desk's calls take: their contracts answer every number, with 11 or 13 where it is none.
 ghost use Rattle.std.specs.Prelude.{◌≡◌};
 ghost use Rattle.gate.specs.Gate.{room_gate, test_gate, pin_gate, margin_gate, part_gate, with_pin, with_rule};
 

@@ -1,6 +1,6 @@
 // A desk session: one record with a map of its own, with room for every sheet, which open and pin change in place.
 // The functions on a lent session are thin: each hands the record over by value, and takes back what it became; both kinds are the form that
-// the scope paper names for this place.
+// the scope paper names for this place. Atom and side stay plain numbers: the contracts (`Pins`) answer every number.
 #![tactic(auto)]
 
 ghost use Rattle.std.specs.Prelude.{◌≡◌};

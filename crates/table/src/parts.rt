@@ -32,7 +32,7 @@ fn place(from: u32, to: u32, k: usize) -> Option<u32>
     }
 }
 
-// The part of row i by its number, as include/archive.h numbers the parts.
+// The part of row i by its number, as include/archive.h numbers the parts: the C interface, so it stays a number.
 pub fn part(code: &[u32], i: u32, part: usize, k: usize) -> Option<usize>
     ensures { result ≡ part_of (row_rule code.now i) part k }
 {

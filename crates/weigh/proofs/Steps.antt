@@ -49,9 +49,6 @@ module _ (n : ℕ) (m : List ℕ) (a v : ℕ) (p : MapBytes n m) (w : Within n a
       })
 
 module _ (Good : Map → Type 0) where
-  pub forces_refl : (M : Map) → Forces Good M M
-  forces_refl M = record { keeps = ⊑_refl M; sound = λ X g f. f }
-
   pub forces_trans : {M M' M'' : Map} → Forces Good M M' → Forces Good M' M'' → Forces Good M M''
   forces_trans f g = record { keeps = ⊑_trans f.keeps g.keeps; sound = λ X x h. g.sound X x (f.sound X x h) }
 
@@ -106,10 +103,7 @@ module _ (Good : Map → Type 0) where
       step_joined r q s k t =
           record { kept = kept_trans n m m' m'' s.kept k; went = went_joined r q s.went (λ h. (t h).went) }
 
-    -- a run of steps begins, and goes on by one
-    pub steps_begin : (Q : ℕ → Map → Type 0) (from : ℕ) (m : List ℕ) → MapBytes n m → Step Good n (Till Q from from) m m (Ok false)
-    steps_begin Q from m p = step_same (Till Q from from) m p (λ k l h. absurd (omega arith))
-
+    -- a run of steps goes on by one
     till_more : (Q : ℕ → Map → Type 0) (from j : ℕ) (M : Map) → Till Q from j M × Q j M → Till Q from (j + 1) M
     till_more Q from j M t k l h =
         ⊎_elim (λ (e : k ≡ j). subst (λ (x : ℕ). Q x M) (sym e) t.1) (λ (b : k < j). t.0 k l b) (eq-or-lt_of_le (omega arith))
