@@ -30,7 +30,7 @@ use Rattle.sheet.specs.declared.Outline.{Outline}
 use Rattle.sheet.proofs.Accepted.{outlined, numbered}
 use Rattle.gate.specs.Scan.{is_contradiction, map_fault}
 use Rattle.gate.specs.Gate.{is_pin, pin_gate}
-use Rattle.gate.proofs.Calls.{pin_through, room_through, pins_through, pins_barred}
+use Rattle.gate.proofs.Calls.{pin_goes, room_through, pins_through, pins_barred}
 use Rattle.gate.proofs.scan.Maps.{map_none, map_stands, threes_map, threes_contradict}
 use Rattle.desk.specs.Promise.{Opened, closed_with, contradicted, Upon, Opens, Pins, Ends, PinAsks, PinEnds, threes}
 use Rattle.desk.specs.Run.{Pin, accepted_of, latest, PinCalls, done, next, Run}
@@ -342,7 +342,7 @@ held_pin s m m' a v r o g c h q =
     m
     r
     (closed_with (undecided o.atoms m))
-    (pin_through s m a v g).lent.room
+    (pin_goes s m a v g).lent.room
     (subst
     (λ (b : Bool). PinEnds b sh m a v m' r)
     (map_stands o.atoms m (map_side o.atoms m c.is_map))

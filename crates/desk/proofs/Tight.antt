@@ -28,7 +28,7 @@ use Rattle.sheet.proofs.Accepted.{numbered}
 use Rattle.sheet.proofs.sheet.Written.{meant}
 use Rattle.gate.specs.Scan.{is_contradiction}
 use Rattle.gate.specs.Gate.{room_gate, test_gate, pin_gate, margin_gate, part_gate}
-use Rattle.gate.proofs.Calls.{Lent, room_goes, pin_through}
+use Rattle.gate.proofs.Calls.{Lent, room_goes, pin_goes}
 use Rattle.desk.specs.Promise.{Checked, PartRead, Opened, Searched, Tested, MarginRead, closed_with, Upon, Checks, Parts, Opens, Pins, Solves, Tests, Margins, Ends, PinAsks, PinEnds, SolveEnds, TestEnds}
 use Rattle.desk.specs.declared.Solved.TheVariants.{Model as ModelFound, NoModel as NoneFound}
 use Rattle.desk.proofs.hand.Laws.{threes_are, threes_written}
@@ -144,7 +144,7 @@ pins_tight s m a v m' m'' r r' p p' =
     s
     (pin_gate s m a v)
     (λ why. both r r' m' m'')
-    (λ sh on. ended sh (on_lent (λ o g. (pin_through s m a v g).lent) on).1 (is_contradiction sh.atoms m))
+    (λ sh on. ended sh (on_lent (λ o g. (pin_goes s m a v g).lent) on).1 (is_contradiction sh.atoms m))
     p.promise
     p'.promise
   where

@@ -22,7 +22,7 @@ use Rattle.sheet.proofs.Accepted.{numbered}
 use Rattle.sheet.proofs.sheet.Written.{meant}
 use Rattle.gate.specs.Scan.{is_contradiction}
 use Rattle.gate.specs.Gate.{test_gate, pin_gate, margin_gate}
-use Rattle.gate.proofs.Calls.{Lent, room_through, pin_through, test_goes, margin_through}
+use Rattle.gate.proofs.Calls.{Lent, room_through, pin_goes, test_goes, margin_goes}
 use Rattle.gate.proofs.Past.{pin_gate_same, test_gate_same, margin_gate_same}
 use Rattle.gate.proofs.scan.Maps.{is_contradiction_same}
 use Rattle.desk.specs.Promise.{Opened, Searched, Tested, MarginRead, Upon, Opens, Pins, Solves, Tests, Margins, Ends, PinAsks, PinEnds, TestEnds}
@@ -105,7 +105,7 @@ module _ (s : List ℕ) (o : Outline) (accepted : sheet_read s ≡ Ok o) (m l : 
         (λ why. (q ≡ Err why) × (l' ≡ l))
         (λ x. PinEnds (is_contradiction x.atoms m) x m a v m' r)
         (λ x. PinEnds (is_contradiction x.atoms l) x l a v l' q)
-        (λ y g. (pin_through s m a v g).lent.accepted)
+        (λ y g. (pin_goes s m a v g).lent.accepted)
         (λ why e e'. (fixed r q e.0 e'.0, as_they_were e.1 e'.1))
         (λ e e'. ended (is_contradiction n m) e (subst (λ (b : Bool). PinEnds b sh l a v l' q) (sym (is_contradiction_same n m l same)) e'))
         p.promise
@@ -166,7 +166,7 @@ module _ (s : List ℕ) (o : Outline) (accepted : sheet_read s ≡ Ok o) (m l : 
         (λ why. q ≡ Err why)
         (λ x. r ≡ Ok (margin (nth_rule x k) (side x.atoms m)))
         (λ x. q ≡ Ok (margin (nth_rule x k) (side x.atoms l)))
-        (λ y g. (margin_through s m k g).1.accepted)
+        (λ y g. (margin_goes s m k g).1.accepted)
         (λ why. fixed r q)
         (λ e e'. e ∙ ap (λ (M : Map). Ok (margin (nth_rule sh k) M)) sides ∙ sym e')
         p.promise

@@ -9,7 +9,7 @@ use Rattle.sheet.specs.Sheet.{sheet_read}
 use Rattle.sheet.specs.Meaning.{sheet_meant}
 use Rattle.sheet.specs.declared.Outline.{Outline}
 use Rattle.gate.specs.Scan.{is_contradiction}
-use Rattle.gate.specs.Gate.{room_gate, test_gate, pin_gate, margin_gate, part_gate}
+use Rattle.gate.specs.Gate.{open_gate, solve_gate, test_gate, pin_gate, margin_gate, part_gate}
 use Rattle.desk.specs.declared.Counts.{Counts}
 use Rattle.desk.specs.declared.Solved.{Solved}
 use Rattle.desk.specs.declared.Solved.TheVariants.{Model as ModelFound, NoModel as NoneFound}
@@ -78,7 +78,7 @@ Ends sh Asked m m' (Err why) = ⊥
 -- "Open: writes the smallest closed map holding the compute lists. The old map is not read."
 pub record Opens (s m m' : List ℕ) (r : Opened) : Type 0 where
   pub promise :
-      Upon s (room_gate s m) (λ why. (r ≡ Err why) × (m' ≡ m)) (λ sh. Ends sh (Holding (computed sh)) m m' r)
+      Upon s (open_gate s m) (λ why. (r ≡ Err why) × (m' ≡ m)) (λ sh. Ends sh (Holding (computed sh)) m m' r)
 
 -- what a pin asks for: the old map and the atom on its side, 1 for in
 abbrev pub PinAsks : Sheet → List ℕ → ℕ → ℕ → Map → Type 0
@@ -107,7 +107,7 @@ SolveEnds sh m m' (Err why) = ⊥
 
 -- "Solve: the first agreeing stable model as a map of 1s and 2s, or "none" and n bytes of 3. The old map is not read."
 pub record Solves (s m m' : List ℕ) (r : Searched) : Type 0 where
-  pub promise : Upon s (room_gate s m) (λ why. (r ≡ Err why) × (m' ≡ m)) (λ sh. SolveEnds sh m m' r)
+  pub promise : Upon s (solve_gate s m) (λ why. (r ≡ Err why) × (m' ≡ m)) (λ sh. SolveEnds sh m m' r)
 
 abbrev pub TestEnds : Sheet → List ℕ → Tested → Type 0
 TestEnds sh m (Ok true) = Model sh (is 1 (side sh.atoms m))

@@ -6,6 +6,7 @@ ghost use Rattle.desk.specs.Inner.Hand.{HandAsks, Hands};
 
 use task::{ClosedMap, copy};
 
+// "All n bytes 3 means contradiction."
 pub(crate) fn write_threes(n: usize, map: &mut [u8])
     requires { Room n map.old }
     ensures { map.new ≡ threes n map.old }

@@ -14,7 +14,7 @@ pub struct Counts {
     pub rules: usize,
 }
 
-// The map is the first model, or there is none.
+// The map is the first model, or there is none: two names, which say more than a bool.
 #[derive(Clone, Copy, Debug, PartialEq, Eq)]
 pub enum Solved {
     Model,

@@ -48,7 +48,7 @@ fn misses(row: &TableRow, j: u32, m: &[u8], u: &[u8]) -> bool
     side_of(m, row.atoms, a) != OUT && side_of(u, row.atoms, a) != IN
 }
 
-// May a head of a rule that is not out be missing in u?
+// May a head of a rule that is not out be missing in u? Tried with `any`: the test's contract is a relation, and the answer did not close.
 fn lacks(row: &TableRow, m: &[u8], u: &[u8]) -> bool
     requires map { MapBytes row.now.atoms m.now }
     requires space { MapBytes row.now.atoms u.now }

@@ -1,6 +1,6 @@
 -- The gates of the calls: what each has tested where it lets its call go on, and where it does.
 use Prim.Native.Nat.{ℕ, ◌≤◌}
-use mathlib.Core.Path.{◌≡◌, refl, ap, ◌∙◌}
+use mathlib.Core.Path.{◌≡◌, refl, sym, ap, ◌∙◌}
 use mathlib.Core.Bool.{Bool, true, false, not, true≢false}
 use mathlib.Core.List.{List, [], ◌∷◌}
 use native.Mathlib.Omega.{arith}
@@ -8,6 +8,7 @@ use lib.ListN.{length}
 use borrow.Author.Tests.{le-ltb, ltb-false}
 use Rattle.std.specs.Prelude.{Ok, Err}
 use Rattle.rules.specs.Rule.{Within}
+use Rattle.rules.specs.declared.RuleNo.{RuleNo}
 use Rattle.rules.specs.Map.{Whole, inside}
 use Rattle.rules.specs.Inner.Bytes.{Room}
 use Rattle.rules.proofs.Inside.{inside_within}
@@ -18,8 +19,9 @@ use Rattle.numbers.specs.declared.reason.Reason.TheVariants.{BadPin}
 use Rattle.sheet.specs.Sheet.{sheet_read}
 use Rattle.sheet.specs.declared.Outline.{Outline}
 use Rattle.gate.specs.Scan.{map_fault}
-use Rattle.gate.specs.Gate.{Test, stop_if, room, is_pin, no_fault, gate, tested, room_gate, test_gate, pin_gate, margin_gate, part_gate}
-use Rattle.gate.proofs.Tests.{not_stopped, no_stop, stops, gate_goes, sheet_passes, test_passes, test_stops, all_tested}
+use Rattle.gate.specs.declared.Pin.{Pin}
+use Rattle.gate.specs.Gate.{Test, stop_if, room, is_pin, no_fault, gate, tested, room_gate, open_gate, solve_gate, test_gate, pin_gate, margin_gate, part_gate, pin_of, rule_of, with_pin, with_rule}
+use Rattle.gate.proofs.Tests.{beside_goes, not_stopped, no_stop, stops, gate_goes, sheet_passes, test_passes, test_stops, all_tested}
 use Rattle.gate.proofs.scan.Maps.{model_fine}
 
 -- the sheet was accepted, and the lent map is long enough
@@ -27,12 +29,22 @@ pub record Lent (s m : List ℕ) (o : Outline) : Type 0 where
   pub accepted : sheet_read s ≡ Ok o
   pub room : Room o.atoms m
 
--- a pin that was let through
-pub record Through (s m : List ℕ) (a v : ℕ) (o : Outline) : Type 0 where
+-- two numbers that are a pin, on a map without a fault
+pub record PinLent (s m : List ℕ) (a v : ℕ) (o : Outline) : Type 0 where
   pub lent : Lent s m o
   pub atom : Within o.atoms a
   pub side : Within 2 v
   pub fine : o.atoms ≤ map_fault o.atoms m
+
+-- a pin that was let through: it is the one that was asked for
+pub record Through (s m : List ℕ) (a v : ℕ) (o : Outline) (pin : Pin) : Type 0 where
+  pub goes : PinLent s m a v o
+  pub asked : pin ≡ pin_of a v
+
+-- a rule's number that was
+pub record AskedRule (o : Outline) (k : ℕ) (rule : RuleNo) : Type 0 where
+  pub within : Within o.rules.value k
+  pub asked : rule ≡ rule_of k
 
 passed_not : (b : Bool) (why : Refusal) → stop_if (not b) why ≡ Ok tt → b ≡ true
 passed_not b why e = by b (not_stopped (not b) why e)
@@ -55,13 +67,19 @@ module _ (s : List ℕ) {o : Outline} where
     pub room_goes : room_gate s m ≡ Ok o → Lent s m o
     room_goes e = let (read, (room, _)) = gate_goes s _ e in record { accepted = read; room = room_passed o.atoms m room }
 
+    pub open_goes : open_gate s m ≡ Ok o → Lent s m o
+    open_goes e = room_goes e
+
+    pub solve_goes : solve_gate s m ≡ Ok o → Lent s m o
+    solve_goes e = room_goes e
+
     pub test_goes : test_gate s m ≡ Ok o → Lent s m o × Whole o.atoms m
     test_goes e =
         let (read, (room, (fine, _))) = gate_goes s _ e in
         (record { accepted = read; room = room_passed o.atoms m room }, model_fine o.atoms m (fault_passed _ _ fine))
 
-    pub pin_through : (a v : ℕ) → pin_gate s m a v ≡ Ok o → Through s m a v o
-    pin_through a v e =
+    pub pin_goes : (a v : ℕ) → pin_gate s m a v ≡ Ok o → PinLent s m a v o
+    pin_goes a v e =
         let (read, (room, (pin, (fine, _)))) = gate_goes s _ e in
         let t = true_T (passed_not (is_pin o.atoms a v) _ pin) in
         record {
@@ -71,13 +89,30 @@ module _ (s : List ℕ) {o : Outline} where
           fine = fault_passed _ _ fine;
         }
 
-    pub margin_through : (k : ℕ) → margin_gate s m k ≡ Ok o → Within o.rules.value k × Lent s m o
-    margin_through k e =
+    pub pin_through : (a v : ℕ) {pin : Pin} → with_pin a v (pin_gate s m a v) ≡ Ok (o, pin) → Through s m a v o pin
+    pin_through a v e =
+        let (goes, same) = beside_goes _ _ (sym e) in
+        record { goes = pin_goes a v goes; asked = sym same }
+
+    pub margin_goes : (k : ℕ) → margin_gate s m k ≡ Ok o → Within o.rules.value k × Lent s m o
+    margin_goes k e =
         let (read, (room, (rule, _))) = gate_goes s _ e in
         (inside_passed o.rules.value k _ rule, record { accepted = read; room = room_passed o.atoms m room })
 
-  pub part_through : (k : ℕ) → part_gate s k ≡ Ok o → Within o.rules.value k × (sheet_read s ≡ Ok o)
-  part_through k e = let (read, (rule, _)) = gate_goes s _ e in (inside_passed o.rules.value k _ rule, read)
+    pub margin_through : (k : ℕ) {rule : RuleNo} → with_rule k (margin_gate s m k) ≡ Ok (o, rule) → AskedRule o k rule × Lent s m o
+    margin_through k e =
+        let (goes, same) = beside_goes _ _ (sym e) in
+        let (within, lent) = margin_goes k goes in
+        (record { within = within; asked = sym same }, lent)
+
+  pub part_goes : (k : ℕ) → part_gate s k ≡ Ok o → Within o.rules.value k × (sheet_read s ≡ Ok o)
+  part_goes k e = let (read, (rule, _)) = gate_goes s _ e in (inside_passed o.rules.value k _ rule, read)
+
+  pub part_through : (k : ℕ) {rule : RuleNo} → with_rule k (part_gate s k) ≡ Ok (o, rule) → AskedRule o k rule × (sheet_read s ≡ Ok o)
+  part_through k e =
+      let (goes, same) = beside_goes _ _ (sym e) in
+      let (within, read) = part_goes k goes in
+      (record { within = within; asked = sym same }, read)
 
 -- The other way: the gate of an accepted sheet and a map that is long enough goes by its other tests.
 module _ {s m : List ℕ} {o : Outline} (lent : Lent s m o) where

@@ -19,7 +19,7 @@ use Rattle.sheet.specs.Meaning.{sheet_meant}
 use Rattle.sheet.specs.declared.Outline.{Outline}
 use Rattle.sheet.proofs.Places.{refused_small}
 use Rattle.sheet.proofs.sheet.Ran.{sheet_ran}
-use Rattle.gate.specs.Gate.{Test, stop_if, no_fault, tested, gate, room_gate, test_gate, pin_gate, margin_gate, part_gate}
+use Rattle.gate.specs.Gate.{Test, stop_if, no_fault, tested, gate, room_gate, open_gate, solve_gate, test_gate, pin_gate, margin_gate, part_gate}
 
 -- a refusal that is so placed, or a sheet with few atoms
 abbrev pub StopsPlaced : Result Outline Refusal → Type 0
@@ -78,6 +78,12 @@ module _ (s : List ℕ) where
   module _ (m : List ℕ) where
     pub rooms_small : StopsPlaced (room_gate s m)
     rooms_small = gate_small s _ (λ o few. (at_start _ _, tt))
+
+    pub opens_small : StopsPlaced (open_gate s m)
+    opens_small = rooms_small
+
+    pub solves_small : StopsPlaced (solve_gate s m)
+    solves_small = rooms_small
 
     pub tests_small : StopsPlaced (test_gate s m)
     tests_small = gate_small s _ (λ o few. (at_start _ _, (at_fault _ _ few, tt)))

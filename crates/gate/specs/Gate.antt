@@ -58,9 +58,15 @@ tested (t ∷ ts) o = read_then Err t (λ _. tested ts o)
 unfoldable pub gate : List ℕ → (Outline → List Test) → Result Outline Refusal
 gate s tests = read_then Err (sheet_read s) (λ o. tested (tests o) o)
 
--- the gates of the calls: of one that writes the map and does not read it, and of the others
+-- the gates of the calls: open and solve have one, since they write the map and do not read it
 abbrev pub room_gate : List ℕ → List ℕ → Result Outline Refusal
 room_gate s m = gate s (λ o. room o.atoms m ∷ [])
+
+abbrev pub open_gate : List ℕ → List ℕ → Result Outline Refusal
+open_gate s m = room_gate s m
+
+abbrev pub solve_gate : List ℕ → List ℕ → Result Outline Refusal
+solve_gate s m = room_gate s m
 
 abbrev pub test_gate : List ℕ → List ℕ → Result Outline Refusal
 test_gate s m = gate s (λ o. room o.atoms m ∷ model_bytes o.atoms m ∷ [])

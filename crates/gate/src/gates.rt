@@ -1,6 +1,7 @@
 // The gates of the calls: "Number 9 is tested first, then the sheet in reading order, then 10, 11, 13, 12, 14, as far as the call has such
 // an input." Each hands on the sheet, and the pin or the rule that was let through with it. Atom, side and rule number come as the plain numbers
-// that desk's calls take: their contracts answer every number, with 11 or 13 where it is none.
+// that desk's calls take: their contracts answer every number, with 11 or 13 where it is none. Each gate is written out, test after test, as its
+// definition is, so that the order can be read off it.
 ghost use Rattle.std.specs.Prelude.{◌≡◌};
 ghost use Rattle.gate.specs.Gate.{room_gate, test_gate, pin_gate, margin_gate, part_gate, with_pin, with_rule};
 
@@ -15,9 +16,9 @@ use sheet::{Outline, read_sheet};
 pub fn room_gate(s: &[u8], m: &[u8]) -> Result<Outline, Refusal>
     ensures { result ≡ room_gate s.now m.now }
 {
-    let sheet = read_sheet(s)?;
-    room(sheet.atoms, m)?;
-    Ok(sheet)
+    let outline = read_sheet(s)?;
+    room(outline.atoms, m)?;
+    Ok(outline)
 }
 
 #[tactic(auto, unfolding(crate::specs::Gate::gate, crate::specs::Gate::tested, numbers::specs::Answer::read_then))]

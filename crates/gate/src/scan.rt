@@ -15,7 +15,8 @@ fn is_between(low: u8, high: u8, b: u8) -> bool
 }
 
 // The first of n bytes that is not from low to high, or n: a check of the whole map, from which the place is handed out. The labelled loop that
-// yields it by break is the form that the scope paper names for this place.
+// yields it by break is the form that the scope paper names for this place. A number, n where there is no such byte: `is_contradiction` and the
+// tests compare it with n, as the definitions do. Bytes are written here as the sentences that are quoted write them.
 fn first_fault(m: &[u8], n: usize, low: u8, high: u8) -> usize
     ensures { result ≡ first_fault (between low high) n m.now }
 {

@@ -20,7 +20,7 @@ pub fn room(n: usize, m: &[u8]) -> Result<(), Refusal>
 
 // 11: "pinned atom 0 or above n, or side not 1 or 2". The side comes as the number that the C interface has.
 #[tactic(auto, unfolding(crate::specs::Gate::stop_if, rules::specs::Sum::pick, crate::specs::Gate::then_give, numbers::specs::Answer::read_then, rules::specs::Number::checked_atom))]
-pub(crate) fn pin(n: usize, atom: usize, side: usize) -> Result<Pin, Refusal>
+pub fn pin(n: usize, atom: usize, side: usize) -> Result<Pin, Refusal>
     ensures { result ≡ then_give (pin_of atom side) (pin n atom side) }
 {
     let barred = Reason::BadPin.at(0);
@@ -37,7 +37,7 @@ pub(crate) fn pin(n: usize, atom: usize, side: usize) -> Result<Pin, Refusal>
 
 // 13: "rule number 0 or above the rule count".
 #[tactic(auto, unfolding(crate::specs::Gate::stop_if, rules::specs::Sum::pick, crate::specs::Gate::then_give, numbers::specs::Answer::read_then, rules::specs::Number::checked_rule))]
-pub(crate) fn rule(count: usize, number: usize) -> Result<RuleNo, Refusal>
+pub fn rule(count: usize, number: usize) -> Result<RuleNo, Refusal>
     ensures { result ≡ then_give (rule_of number) (rule count number) }
 {
     RuleNo::checked(number, count).ok_or(Reason::NoRule.at(0))
@@ -55,7 +55,7 @@ fn no_fault(n: usize, place: usize) -> Result<(), Refusal>
 }
 
 // 12 of a map.
-pub(crate) fn map_bytes(n: usize, m: &[u8]) -> Result<(), Refusal>
+pub fn map_bytes(n: usize, m: &[u8]) -> Result<(), Refusal>
     ensures { result ≡ map_bytes n m.now }
 {
     no_fault(n, map_fault(m, n))
@@ -70,7 +70,7 @@ pub fn model_bytes(n: usize, m: &[u8]) -> Result<(), Refusal>
 
 // 14: "margin asked on a contradiction".
 #[tactic(auto, unfolding(crate::specs::Gate::stop_if, rules::specs::Sum::pick))]
-pub(crate) fn no_contradiction(n: usize, m: &[u8]) -> Result<(), Refusal>
+pub fn no_contradiction(n: usize, m: &[u8]) -> Result<(), Refusal>
     ensures { result ≡ no_contradiction n m.now }
 {
     if is_contradiction(m, n) {

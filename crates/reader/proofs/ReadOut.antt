@@ -59,7 +59,7 @@ read_more :
     → read_on (suc left) s (Ok (rest n (suc left) at)) ≡ and_rule r (read_on left s (Ok (rest n left r.next)))
 unfolding read_on step_then
 read_more s n left at r e =
-    ap (λ (step : NextRule). step_then step (λ rule rest. and_rule rule (read_on left s (Ok rest)))) (step_read s n left at r e)
+    ap (λ (step : NextRule). step_then step (λ rule next. and_rule rule (read_on left s next))) (step_read s n left at r e)
 
 -- so many rules that were read, as the reader reads them
 read_rules :
@@ -123,13 +123,13 @@ handed_up s why e = by (sheet_read s) refl e
 same_reading : (more : ℕ) (r : Reader) → read_by more r ≡ read_on more r.sheet.now r.place
 unfolding read_by read_on step_then place_after
 same_reading zero r = refl
-same_reading (suc more) r = by (next_of r) (λ rest. same_reading more (moved_to r (Ok rest)))
+same_reading (suc more) r = by (next_of r) (λ next. same_reading more (moved_to r next))
   where
     by :
-        (step : NextRule) → ((rest : Rest) → read_by more (moved_to r (Ok rest)) ≡ read_on more r.sheet.now (Ok rest))
-        → step_then step (λ rule rest. and_rule rule (read_by more (moved_to r (place_after step r.place))))
-        ≡ step_then step (λ rule rest. and_rule rule (read_on more r.sheet.now (Ok rest)))
-    by (Ok (Some step)) same = ap (λ (t : ReadOut). and_rule step.rule t) (same step.rest)
+        (step : NextRule) → ((next : Place) → read_by more (moved_to r next) ≡ read_on more r.sheet.now next)
+        → step_then step (λ rule next. and_rule rule (read_by more (moved_to r (place_after step r.place))))
+        ≡ step_then step (λ rule next. and_rule rule (read_on more r.sheet.now next))
+    by (Ok (Some step)) same = ap (λ (t : ReadOut). and_rule step.rule t) (same step.place)
     by (Ok None) same = refl
     by (Err why) same = refl
 

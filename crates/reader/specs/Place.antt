@@ -30,7 +30,7 @@ after rest rule = record { atoms = rest.atoms; left = rest.left - 1; at = rule.n
 
 -- this rule was read, and these are left
 abbrev pub stepped : SheetRule → Rest → NextRule
-stepped rule rest = Ok (Some (record { rule = rule; rest = rest }))
+stepped rule rest = Ok (Some (record { rule = rule; place = Ok rest }))
 
 unfoldable pub rest_step : List ℕ → Rest → NextRule
 rest_step s rest =
@@ -41,7 +41,7 @@ step_at s place = read_then Err place (λ rest. rest_step s rest)
 
 -- the place after a step: only a rule that was read moves it on
 unfoldable pub place_after : NextRule → Place → Place
-place_after (Ok (Some step)) place = Ok step.rest
+place_after (Ok (Some step)) place = step.place
 place_after (Ok None) place = place
 place_after (Err why) place = place
 

@@ -23,11 +23,11 @@ pub struct Rest {
 // Where a reader stands: before the rules that are left, or at the refusal of its sheet.
 pub type Place = Result<Rest, Refusal>;
 
-// A rule that was read, and the rules that are left after it.
+// A rule that was read, and the place after it: as a value that may come in, any place.
 #[derive(Clone, Copy, Debug, PartialEq, Eq)]
 pub struct Step {
     pub rule: SheetRule,
-    pub rest: Rest,
+    pub place: Place,
 }
 
 // What one step finds: a rule and those after it, None at the end of the rules, or a refusal.

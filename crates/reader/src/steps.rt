@@ -29,11 +29,11 @@ fn rest_step(s: &[u8], rest: Rest) -> NextRule
     let rule = read_rule(s, rest.atoms, rest.at)?;
     Ok(Some(Step {
         rule,
-        rest: Rest {
+        place: Ok(Rest {
             atoms: rest.atoms,
             left: rest.left - 1,
             at: rule.next,
-        },
+        }),
     }))
 }
 
@@ -51,7 +51,7 @@ pub fn place_after(step: NextRule, place: Place) -> Place
     ensures { result ≡ place_after step place }
 {
     match step {
-        Ok(Some(read)) => Ok(read.rest),
+        Ok(Some(read)) => read.place,
         _ => place,
     }
 }

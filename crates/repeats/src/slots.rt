@@ -51,7 +51,8 @@ impl Kept {
         self.slots[slot] = (k + 1) as u16;
     }
 
-    // The row that has row k's rule, of this mark: one before it, or row k itself, which is then entered.
+    // The row that has row k's rule, of this mark: one before it, or row k itself, which is then entered. There always is one, so the answer
+    // is no Option (`KeptOnce`).
     pub fn keep(&mut self, code: &[u32], k: u32, mark: usize) -> u32
         requires { KeepAsks code.now self.old k mark }
         ensures { KeptOnce code.now k self.old self.new result }

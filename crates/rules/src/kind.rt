@@ -19,16 +19,11 @@ impl Kind {
     }
 
     // The kind of a number that is a kind's; of any other, a weight rule's.
-    #[tactic(auto, unfolding(crate::specs::Rule::kind_of, crate::specs::Sum::pick))]
+    #[tactic(auto, unfolding(crate::specs::Rule::kind_of, crate::specs::Rule::checked_kind, crate::specs::Sum::pick))]
     pub fn of(number: usize) -> Kind
         ensures { result ≡ kind_of number }
     {
-        match number {
-            1 => Kind::Basic,
-            2 => Kind::Constraint,
-            3 => Kind::Choice,
-            _ => Kind::Weight,
-        }
+        Kind::checked(number).unwrap_or(Kind::Weight)
     }
 
     // The kind of this number, where it is a kind's.

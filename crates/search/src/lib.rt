@@ -1,4 +1,4 @@
-// The search for the first model above a closed map: three functions that call each other, with the map by value at each (document 01).
+// The search for the first model above a closed map: three functions that call each other, with the map by value at each (the scope paper's form).
 #![tactic(auto)]
 
 ghost use Rattle.std.specs.Prelude.{◌+◌};

@@ -11,7 +11,7 @@ use numbers::{Reason, Refusal, SHORT_MOST, Span, past_bytes, read_list, read_wit
 const WEIGHT_MOST: usize = 1_000_000;
 
 // The first of so many weights from a place on, as far as each takes one byte: the sum of them and of those before, and the place after
-// them.
+// them. No twin of numbers' `short_atoms`, which goes two by two with an order and a bound: this one adds.
 fn short_weights(s: &[u8], before: usize, count: usize, first: usize) -> Span
     requires fits { before ≤ number_most * number_most }
     requires few { count ≤ number_most }

@@ -1,4 +1,5 @@
-// A table that is laid, and a row of it: what is known of their words goes with them.
+// A table that is laid, and a row of it: what is known of their words goes with them. The free functions of this crate stay beside the methods
+// for repeats and decode, whose tables are not laid yet; definitions speak of words, atoms and place, since they hold of such tables too.
 ghost use Rattle.std.specs.Prelude.{◌≤◌, ◌≡◌};
 ghost use Rattle.rules.specs.Rule.{chooses};
 ghost use Rattle.table.specs.Inner.Words.{pair_atom, pair_weight};

@@ -1,4 +1,6 @@
-// A table: the rules of a sheet as one list of words. A word past the end is 0; only `atom_there` and `weight_there` ask anything of the words.
+// A table: the rules of a sheet as one list of words, since there is no heap and no sheet says beforehand how many literals it has. A word
+// past the end is 0; of the free functions only `atom_there` and `weight_there` ask anything of the words, `Table` and `TableRow` carry what is
+// known of theirs. A word is a u32 and an index a usize: the change is `as`, since std has no From for it.
 #![tactic(auto)]
 
 pub mod laid;

@@ -18,7 +18,7 @@ use search::choose;
 use table::Table;
 use weigh::Clash;
 
-// A closed map, and how many atoms it leaves undecided.
+// Maps have room for the most atoms, since there is no heap. A closed map, and how many atoms it leaves undecided.
 #[derive(Clone, Copy, Debug, PartialEq, Eq)]
 pub struct ClosedMap {
     pub map: [u8; Atom::LAST],
@@ -61,9 +61,9 @@ fn close_pinned(t: &Table, pin: Pin, m: &mut [u8]) -> Result<u32, Clash>
 pub fn opened(t: &Table) -> Option<ClosedMap>
     ensures { ClosedFor (table_sheet t.now.code.now t.now.atoms t.now.rules) (Holding (computed (table_sheet t.now.code.now t.now.atoms t.now.rules))) result }
 {
-    let mut map = [0u8; Atom::LAST];
-    let closed = close_held(t, &mut map);
-    found(map, closed)
+    let mut blank = [0u8; Atom::LAST];
+    let closed = close_held(t, &mut blank);
+    found(blank, closed)
 }
 
 // The smallest closed map above m that holds the compute lists.

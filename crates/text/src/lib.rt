@@ -54,7 +54,7 @@ pub fn none_line() -> Line
     ended(line)
 }
 
-// The line of a refusal, of any two numbers as it promises: a `Refusal` would ask for less of them.
+// The line of a refusal: two plain numbers, of which nothing is asked, where a `Refusal` would let in only the sixteen reasons.
 pub fn refused_line(number: usize, place: usize) -> Line
     ensures { Spells result (refused_line number place) }
 {

@@ -46,7 +46,8 @@ impl Seen {
     }
 }
 
-// The side of atom a, one of n. Maps stay plain bytes with n beside them: a call is lent them so, and the search keeps arrays (document 01).
+// The side of atom a, one of n. Maps stay plain bytes with n beside them: a call is lent them so, and the search keeps them by value,
+// as the scope paper says.
 pub fn side_of(m: &[u8], n: u32, a: u32) -> u8
     requires { Side n a m.now }
     ensures { result ≡ side n m.now a }

@@ -45,7 +45,7 @@ fn press_run(
     Ok(grew)
 }
 
-// The side on which an atom is true, or false.
+// The side on which an atom is true, or false: a literal's sign is a bool in code and definitions, a side a byte.
 pub fn side_for(truth: bool) -> u8
     ensures { result ≡ want truth }
 {

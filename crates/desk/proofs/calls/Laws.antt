@@ -30,7 +30,7 @@ use Rattle.table.specs.Inner.Rows.{row_rule, table_sheet}
 use Rattle.gate.specs.Scan.{is_contradiction}
 use Rattle.gate.specs.Gate.{room_gate, test_gate, pin_gate, margin_gate, part_gate, pin_of, rule_of}
 use Rattle.gate.specs.declared.Pin.{Pin}
-use Rattle.gate.proofs.Calls.{Lent, room_goes, pin_through, test_goes, margin_through, part_through}
+use Rattle.gate.proofs.Calls.{Lent, room_goes, pin_goes, test_goes, margin_goes, part_goes}
 use Rattle.search.specs.Inner.Search.{FirstIn}
 use Rattle.task.specs.Inner.Copy.{first_bytes}
 use Rattle.task.specs.Inner.Closed.{ClosedFor}
@@ -123,7 +123,7 @@ module _
               (subst
               (λ (b : Bool). PinEnds b (sheet_meant s o) m a v m' (Ok i))
               (sym none)
-              (map_ends (sheet_meant s o) (PinAsks (sheet_meant s o) m a v) m m' x i (over_on m refl f) (pin_through s m a v g).lent.room
+              (map_ends (sheet_meant s o) (PinAsks (sheet_meant s o) m a v) m m' x i (over_on m refl f) (pin_goes s m a v g).lent.room
               h.handed));
         }
 
@@ -212,10 +212,10 @@ asked_place {count} {number} {j} {asked} same e w =
     (k, omega (arith, k, w.low), omega (arith, k, w.high))
 
 -- what is asked of a rule, on its row
-same_rule :
+asked_same :
     {s : List ℕ} {o : Outline} {number wanted : ℕ} {c : List ℕ} {n count : ℕ} {d : List ℕ} {k at : ℕ} → Stands s o wanted c n count d k at
     → wanted ≡ number - 1 → Within o.rules.value number → row_rule d at ≡ nth_rule (sheet_meant s o) number
-same_rule {s} {o} on e w =
+asked_same {s} {o} on e w =
     on.row (omega (arith, e, w.low, w.high)) ∙ ap (λ (j : ℕ). get_or (sheet_meant s o).rules j no_rule) e
 
 pub margins :
@@ -228,7 +228,7 @@ margins {s} {m} {o} {number} on w g e =
       promise =
           upon_go s _ _ g
           (ap (λ (y : ℤ). Ok y)
-          (e ∙ ap₂ (λ (r : Rule) (j : ℕ). margin r (side j m)) (same_rule on w (margin_through s m number g).0) on.row_atoms));
+          (e ∙ ap₂ (λ (r : Rule) (j : ℕ). margin r (side j m)) (asked_same on w (margin_goes s m number g).0) on.row_atoms));
     }
 
 pub parts :
@@ -238,7 +238,7 @@ parts {s} {o} {number} {p = p} {i = i} on w g e =
     record {
       promise =
           upon_go s _ _ g
-          (ap (λ (y : Option ℕ). Ok y) (e ∙ ap (λ (r : Rule). part_of r p i) (same_rule on w (part_through s number g).0)));
+          (ap (λ (y : Option ℕ). Ok y) (e ∙ ap (λ (r : Rule). part_of r p i) (asked_same on w (part_goes s number g).0)));
     }
 
 -- a pin on a contradiction

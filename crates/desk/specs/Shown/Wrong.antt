@@ -11,7 +11,7 @@ use Rattle.numbers.specs.declared.Refusal.{Refusal}
 use Rattle.numbers.specs.declared.reason.Reason.TheVariants.{EndsEarly}
 use Rattle.sheet.specs.Meaning.{sheet_meant}
 use Rattle.sheet.specs.declared.Outline.{Outline}
-use Rattle.gate.specs.Gate.{room_gate, pin_gate}
+use Rattle.gate.specs.Gate.{open_gate, pin_gate}
 use Rattle.desk.specs.Promise.{Checked, Opened, Searched, closed_with, Checks, Opens, Pins, Solves}
 use Rattle.desk.specs.declared.Solved.TheVariants.{Model as ModelFound, NoModel as NoneFound}
 
@@ -50,7 +50,7 @@ pub record Miscounts (n : ℕ) (l : Leaves Opened) : Type 0 where
 
 -- open, or pin, goes on
 abbrev pub OpenGoes : List ℕ → List ℕ → Outline → Type 0
-OpenGoes s m o = room_gate s m ≡ Ok o
+OpenGoes s m o = open_gate s m ≡ Ok o
 
 abbrev pub PinGoes : List ℕ → List ℕ → ℕ → ℕ → Outline → Type 0
 PinGoes s m a d o = pin_gate s m a d ≡ Ok o
@@ -105,7 +105,7 @@ abbrev pub lazy : Version
 lazy =
     record {
       check = λ s. Err (refusal EndsEarly 0);
-      open' = λ s m. record { answer = closed_with 9; map = put_all (filled 0 m) (listed s (room_gate s m)) };
+      open' = λ s m. record { answer = closed_with 9; map = put_all (filled 0 m) (listed s (open_gate s m)) };
       pin = λ s m a d. record { answer = closed_with 9; map = put_at m a (eqb d 1) };
       solve = λ s m. record { answer = Ok NoneFound; map = m };
     }

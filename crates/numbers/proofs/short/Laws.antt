@@ -88,3 +88,8 @@ module _ (s : List ℕ) (n count first end most : ℕ) (e : end ≡ past_bytes s
       let z : at + 1 + 1 ≡ at + 2 = omega arith in
       subst (Ahead (atom_at s n) count first next) z
       (atom_ahead atom (at + 1) next (atom_ahead above at atom a (omega arith) g low (omega arith)) (omega arith) h up high)
+
+-- what is so of a value and a place is so of those that an answer names
+pub span_at :
+    (P : ℕ → ℕ → Type 0) {value first at : ℕ} (p : Span) → p ≡ span value first at → P value at → P p.value p.next
+span_at P p e a = subst (λ (q : Span). P q.value q.next) (sym e) a

@@ -6,7 +6,7 @@ use Rattle.std.specs.Prelude.{Err}
 use Rattle.rules.specs.Map.{side, signed, Over}
 use Rattle.table.specs.Inner.Rows.{table_sheet}
 use Rattle.gate.proofs.Tests.{beside_goes, beside_stops}
-use Rattle.gate.proofs.Calls.{pin_through}
+use Rattle.gate.proofs.Calls.{pin_goes}
 use Rattle.gate.proofs.scan.Maps.{map_fine}
 use Rattle.task.specs.Inner.Closed.{ClosedFor}
 use Rattle.desk.proofs.calls.Laws.{pins, pins_refused, pins_stay, has_room, on_map, on_atom, pin_asked}
@@ -27,13 +27,13 @@ returns-then-is_contradiction c =
 pub on_table-closed-requires-clause-accepted : goal.on_table-closed-requires-clause-accepted
 on_table-closed-requires-clause-accepted c =
     let a = c.args in
-    (pin_through a.s.now a.map.now a.atom a.side (beside_goes _ _ c.in_ok-sheet.ensures).0).lent.accepted
+    (pin_goes a.s.now a.map.now a.atom a.side (beside_goes _ _ c.in_ok-sheet.ensures).0).lent.accepted
 
 pub on_table-closed-requires-clause-ready : goal.on_table-closed-requires-clause-ready
 on_table-closed-requires-clause-ready c t row on =
     let a = c.args in
     let (goes, same) = beside_goes _ _ c.in_ok-sheet.ensures in
-    let through = pin_through a.s.now a.map.now a.atom a.side goes in
+    let through = pin_goes a.s.now a.map.now a.atom a.side goes in
     let fine = map_fine _ _ through.lent.room through.fine (sym c.is_contradiction.ensures ∙ c.if-is_contradiction.false) in
     (on_map on fine, on_atom _ on same through.atom)
 
@@ -45,7 +45,7 @@ hand-requires c =
     closed : ClosedFor (table_sheet t.code.now t.atoms t.rules) (Over (side t.atoms a.map.now) (signed c.in_ok-sheet.put.inside c.in_ok-sheet.put.atom.number ∷ [])) c.on_table-closed.result
     = search rules
     in
-    record { lent = (pin_through a.s.now a.map.now a.atom a.side (beside_goes _ _ c.in_ok-sheet.ensures).0).lent.room; worked = has_room on _ _ closed }
+    record { lent = (pin_goes a.s.now a.map.now a.atom a.side (beside_goes _ _ c.in_ok-sheet.ensures).0).lent.room; worked = has_room on _ _ closed }
 
 pub returns : goal.returns
 returns c =
