@@ -1,46 +1,34 @@
 -- No remainder of the coding loses anything: each answer that meets its promise has a top below 2^24 and a value below 2^40, by the
 -- limits of a sheet, so that the number which a call hands on tells its answer.
 use Prim.Native.Nat.{ℕ, ◌*◌, ◌≤◌, ◌<◌, ◌^◌}
-use mathlib.Core.Path.{◌≡◌, refl, sym, ◌∙◌, ap, ap₂, subst}
+use mathlib.Core.Path.{◌≡◌, sym, ◌∙◌, ap, ap₂, subst}
 use mathlib.Core.Bool.{Bool, true, false}
 use mathlib.Core.List.{List}
 use native.Mathlib.Omega.{arith}
 use lib.ListN.{length}
 use lib.IntN.{ℤ, pos, negsuc}
+use Rattle.std.specs.Prelude.{Option, Some, None, Result, Ok, Err}
 use Rattle.rules.specs.Limits.{atoms_most, rules_most, bytes_most, weight_most, number_most}
 use Rattle.rules.specs.Rule.{Sheet, nth_rule}
 use Rattle.rules.specs.Map.{Map, side}
 use Rattle.rules.specs.Sum.{pick}
-use Rattle.rules.specs.declared.Item.{Item}
 use Rattle.rules.proofs.Bytes.{undecided_few}
 use Rattle.numbers.specs.declared.Refusal.{Refusal}
 use Rattle.numbers.proofs.Places.{Placed}
 use Rattle.sheet.specs.Shown.Encode.{WellFormed}
 use Rattle.sheet.proofs.Limits.{Lies, above, below, rule_sound, margin_range}
+use Rattle.sheet.specs.Sheet.{sheet_read}
 use Rattle.gate.specs.Scan.{is_contradiction}
-use Rattle.gate.specs.Gate.{sheet_gate, open_gate, solve_gate, test_gate, pin_gate, margin_gate, part_gate}
-use Rattle.gate.specs.declared.Task.TheVariants.{Stay}
-use Rattle.gate.proofs.Goes.{sheet_goes}
-use Rattle.gate.proofs.Calls.{open_goes, solve_goes, test_goes, pin_through, margin_through, part_through}
-use Rattle.gate.proofs.Places.{checks_small, parts_small, opens_small, solves_small, tests_small, pins_small, margins_small}
-use Rattle.desk.specs.Promise.{Checks, Opens, Pins, Solves, Tests, Margins, Parts, Ends, PinEnds, SolveEnds, TestEnds, part_is}
-use Rattle.desk.specs.declared.Checked.{Checked}
-use Rattle.desk.specs.declared.Checked.TheVariants.{Accepted, Refused as RefusedSheet}
-use Rattle.desk.specs.declared.PartRead.{PartRead}
-use Rattle.desk.specs.declared.PartRead.TheVariants.{Refused as RefusedPart}
-use Rattle.desk.specs.declared.Opened.{Opened}
-use Rattle.desk.specs.declared.Opened.TheVariants.{Closed, Contradiction, Refused as RefusedMap}
-use Rattle.desk.specs.declared.Solved.{Solved}
-use Rattle.desk.specs.declared.Solved.TheVariants.{Model, NoModel, Refused as RefusedSolve}
-use Rattle.desk.specs.declared.Tested.{Tested}
-use Rattle.desk.specs.declared.Tested.TheVariants.{Stable, NotStable, Refused as RefusedTest}
-use Rattle.desk.specs.declared.MarginRead.{MarginRead}
-use Rattle.desk.specs.declared.MarginRead.TheVariants.{Is, Refused as RefusedMargin}
-use Rattle.archive.specs.Code.{HandsOn, counts, raised, code_refusal, code_checked, code_opened, code_solved, code_tested, code_margin, code_part}
+use Rattle.gate.specs.Gate.{room_gate, test_gate, pin_gate, margin_gate, part_gate}
+use Rattle.gate.proofs.Calls.{room_goes, test_goes, pin_through, margin_through, part_through}
+use Rattle.gate.proofs.Places.{checks_small, parts_small, rooms_small, tests_small, pins_small, margins_small}
+use Rattle.desk.specs.Promise.{Checked, PartRead, Opened, Searched, Tested, MarginRead, contradicted, Checks, Opens, Pins, Solves, Tests, Margins, Parts, Ends, PinEnds, SolveEnds, TestEnds}
+use Rattle.desk.specs.declared.Solved.TheVariants.{Model, NoModel}
+use Rattle.archive.specs.Code.{HandsOn, counts, raised, code_answer, code_checked, code_opened, code_solved, code_tested, code_margin, code_part}
 use Rattle.archive.proofs.Whole.{counts_read, raised_up, raised_down}
 use Rattle.archive.proofs.Stops.{Asked, upon, within_limits, asked}
 use Rattle.archive.proofs.Parts.{Numeric, number, none, part_numeric}
-use Rattle.archive.proofs.Told.{told, checked_by, opened_by, solved_by, tested_by, margin_by, part_by, checked_told, opened_told, solved_told, tested_told, margin_told, part_told, refusal_told, answer_told, lowered_up, lowered_down}
+use Rattle.archive.proofs.Told.{told, counted, checked_by, found_by, solved_by, tested_by, margin_by, checked_told, opened_told, solved_told, tested_told, margin_told, part_told, refusal_told, answer_told, lowered_up, lowered_down}
 
 -- the code of an answer tells that answer
 pub record Exact {A : Type 0} (of : ℕ → A) (coding : A → ℕ) (answer : A) : Type 0 where
@@ -48,11 +36,10 @@ pub record Exact {A : Type 0} (of : ℕ → A) (coding : A → ℕ) (answer : A)
 
 -- an answer that is a refusal, of whatever call
 refused_exact :
-    {A : Type 0} (up : Refusal → A) (other : ℕ → ℕ → A) (coding : A → ℕ) → ((why : Refusal) → coding (up why) ≡ code_refusal why)
-    → (a : A) (why : Refusal) → Placed bytes_most why → a ≡ up why → Exact (told up other) coding a
-refused_exact up other coding coded a why w e =
-    subst (Exact (told up other) coding) (sym e)
-    (record { tells = ap (told up other) (coded why) ∙ refusal_told up other why w })
+    {A : Type 0} (own : ℕ → ℕ → A) (coding : A → ℕ) (a : Result A Refusal) (why : Refusal) → Placed bytes_most why → a ≡ Err why
+    → Exact (told own) (code_answer coding) a
+refused_exact own coding a why w e =
+    subst (Exact (told own) (code_answer coding)) (sym e) (record { tells = refusal_told own why w })
 
 -- a number tells its answer
 tells_answer :
@@ -64,7 +51,8 @@ counts_small : (n rules : ℕ) → counts n rules < 2 ^ 40
 unfolding counts
 counts_small n rules = omega arith
 
-accepted_exact : (sh : Sheet) → WellFormed sh → Exact checked_told code_checked (Accepted sh.atoms (length sh.rules))
+accepted_exact :
+    (sh : Sheet) → WellFormed sh → Exact checked_told code_checked (Ok (counted sh.atoms (length sh.rules)))
 unfolding atoms_most rules_most
 accepted_exact sh w =
     let n = sh.atoms in
@@ -72,44 +60,44 @@ accepted_exact sh w =
     let back = counts_read n k (omega (arith, w.atoms)) (omega (arith, w.count)) in
     record {
       tells =
-          answer_told RefusedSheet checked_by 32 (counts n k) (omega arith) (omega arith) (counts_small n k)
-          ∙ ap₂ (λ (x y : ℕ). Accepted x y) back.top' back.value';
+          answer_told checked_by 32 (counts n k) (omega arith) (omega arith) (counts_small n k)
+          ∙ ap₂ (λ (x y : ℕ). Ok (counted x y)) back.top' back.value';
     }
 
 checks_exact : (s : List ℕ) (a : Checked) → Checks s a → Exact checked_told code_checked a
 checks_exact s a p =
-    upon WellFormed s (sheet_gate s Stay) (checks_small s) (λ o t g. within_limits s o (sheet_goes s Stay g).0)
-    (refused_exact RefusedSheet checked_by code_checked (λ why. refl) a)
+    upon WellFormed s (sheet_read s) (checks_small s) (λ o e. within_limits s o e)
+    (refused_exact checked_by _ a)
     (λ sh w e. subst (Exact checked_told code_checked) (sym e) (accepted_exact sh w))
     p.promise
 
-contradiction_exact : Exact opened_told code_opened Contradiction
+contradiction_exact : Exact opened_told code_opened contradicted
 unfolding pick
-contradiction_exact = record { tells = answer_told RefusedMap opened_by 34 0 (omega arith) (omega arith) (omega arith) }
+contradiction_exact = record { tells = answer_told (found_by 33) 34 0 (omega arith) (omega arith) (omega arith) }
 
 ends_exact :
     (sh : Sheet) (Q : Map → Type 0) (m m' : List ℕ) (a : Opened) → sh.atoms ≤ atoms_most → Ends sh Q m m' a
     → Exact opened_told code_opened a
 unfolding atoms_most pick
-ends_exact sh Q m m' (Closed k) few c =
+ends_exact sh Q m m' (Ok (Some k)) few c =
     record {
       tells =
-          answer_told RefusedMap opened_by 33 k (omega arith) (omega arith) (omega (arith, c.open', undecided_few sh.atoms m'));
+          answer_told (found_by 33) 33 k (omega arith) (omega arith) (omega (arith, c.open', undecided_few sh.atoms m'));
     }
-ends_exact sh Q m m' Contradiction few c = contradiction_exact
-ends_exact sh Q m m' (RefusedMap why) few c = absurd c
+ends_exact sh Q m m' (Ok None) few c = contradiction_exact
+ends_exact sh Q m m' (Err why) few c = absurd c
 
 opens_exact : (s m m' : List ℕ) (a : Opened) → Opens s m m' a → Exact opened_told code_opened a
 opens_exact s m m' a p =
-    upon WellFormed s (open_gate s m) (opens_small s m) (λ o t g. within_limits s o (open_goes s m g).1.accepted)
-    (λ why w e. refused_exact RefusedMap opened_by code_opened (λ why. refl) a why w e.0)
+    upon WellFormed s (room_gate s m) (rooms_small s m) (λ o g. within_limits s o (room_goes s m g).accepted)
+    (λ why w e. refused_exact (found_by 33) _ a why w e.0)
     (λ sh w e. ends_exact sh _ m m' a w.atoms e)
     p.promise
 
 pins_exact : (s m : List ℕ) (atom v : ℕ) (m' : List ℕ) (a : Opened) → Pins s m atom v m' a → Exact opened_told code_opened a
 pins_exact s m atom v m' a p =
-    upon WellFormed s (pin_gate s m atom v) (pins_small s m atom v) (λ o t g. within_limits s o (pin_through s m atom v g).lent.accepted)
-    (λ why w e. refused_exact RefusedMap opened_by code_opened (λ why. refl) a why w e.0)
+    upon WellFormed s (pin_gate s m atom v) (pins_small s m atom v) (λ o g. within_limits s o (pin_through s m atom v g).lent.accepted)
+    (λ why w e. refused_exact (found_by 33) _ a why w e.0)
     (λ sh w e. ended sh (is_contradiction sh.atoms m) w.atoms e)
     p.promise
   where
@@ -117,73 +105,67 @@ pins_exact s m atom v m' a p =
     ended sh true few e = subst (Exact opened_told code_opened) (sym e.0) contradiction_exact
     ended sh false few e = ends_exact sh _ m m' a few e
 
-solve_ends_exact : (sh : Sheet) (m m' : List ℕ) (a : Solved) → SolveEnds sh m m' a → Exact solved_told code_solved a
+solve_ends_exact : (sh : Sheet) (m m' : List ℕ) (a : Searched) → SolveEnds sh m m' a → Exact solved_told code_solved a
 unfolding pick
-solve_ends_exact sh m m' Model e =
-    record { tells = answer_told RefusedSolve solved_by 35 0 (omega arith) (omega arith) (omega arith) }
-solve_ends_exact sh m m' NoModel e =
-    record { tells = answer_told RefusedSolve solved_by 36 0 (omega arith) (omega arith) (omega arith) }
-solve_ends_exact sh m m' (RefusedSolve why) e = absurd e
+solve_ends_exact sh m m' (Ok Model) e = record { tells = answer_told solved_by 35 0 (omega arith) (omega arith) (omega arith) }
+solve_ends_exact sh m m' (Ok NoModel) e = record { tells = answer_told solved_by 36 0 (omega arith) (omega arith) (omega arith) }
+solve_ends_exact sh m m' (Err why) e = absurd e
 
-solves_exact : (s m m' : List ℕ) (a : Solved) → Solves s m m' a → Exact solved_told code_solved a
+solves_exact : (s m m' : List ℕ) (a : Searched) → Solves s m m' a → Exact solved_told code_solved a
 solves_exact s m m' a p =
-    upon WellFormed s (solve_gate s m) (solves_small s m) (λ o t g. within_limits s o (solve_goes s m g).1.accepted)
-    (λ why w e. refused_exact RefusedSolve solved_by code_solved (λ why. refl) a why w e.0)
+    upon WellFormed s (room_gate s m) (rooms_small s m) (λ o g. within_limits s o (room_goes s m g).accepted)
+    (λ why w e. refused_exact solved_by _ a why w e.0)
     (λ sh w e. solve_ends_exact sh m m' a e)
     p.promise
 
 test_ends_exact : (sh : Sheet) (m : List ℕ) (a : Tested) → TestEnds sh m a → Exact tested_told code_tested a
-unfolding pick
-test_ends_exact sh m Stable e =
-    record { tells = answer_told RefusedTest tested_by 37 0 (omega arith) (omega arith) (omega arith) }
-test_ends_exact sh m NotStable e =
-    record { tells = answer_told RefusedTest tested_by 38 0 (omega arith) (omega arith) (omega arith) }
-test_ends_exact sh m (RefusedTest why) e = absurd e
+test_ends_exact sh m (Ok true) e = record { tells = answer_told tested_by 37 0 (omega arith) (omega arith) (omega arith) }
+test_ends_exact sh m (Ok false) e = record { tells = answer_told tested_by 38 0 (omega arith) (omega arith) (omega arith) }
+test_ends_exact sh m (Err why) e = absurd e
 
 tests_exact : (s m : List ℕ) (a : Tested) → Tests s m a → Exact tested_told code_tested a
 tests_exact s m a p =
-    upon WellFormed s (test_gate s m) (tests_small s m) (λ o t g. within_limits s o (test_goes s m g).1.accepted)
-    (refused_exact RefusedTest tested_by code_tested (λ why. refl) a)
+    upon WellFormed s (test_gate s m) (tests_small s m) (λ o g. within_limits s o (test_goes s m g).0.accepted)
+    (refused_exact tested_by _ a)
     (λ sh w e. test_ends_exact sh m a e)
     p.promise
 
-range_exact : (x : ℤ) → Lies number_most (2 * (atoms_most * weight_most)) x → Exact margin_told code_margin (Is x)
+range_exact : (x : ℤ) → Lies number_most (2 * (atoms_most * weight_most)) x → Exact margin_told code_margin (Ok x)
 unfolding number_most atoms_most weight_most
 range_exact _ (above k h) =
     record {
       tells =
-          answer_told RefusedMargin margin_by 39 (raised (pos k)) (omega arith) (omega arith) (omega (arith, raised_up k))
-          ∙ ap Is (lowered_up k);
+          answer_told margin_by 39 (raised (pos k)) (omega arith) (omega arith) (omega (arith, raised_up k))
+          ∙ ap Ok (lowered_up k);
     }
 range_exact _ (below k h) =
     let few : k < 2 ^ 32 = omega arith in
     record {
       tells =
-          answer_told RefusedMargin margin_by 39 (raised (negsuc k)) (omega arith) (omega arith) (omega (arith, raised_down k few))
-          ∙ ap Is (lowered_down k few);
+          answer_told margin_by 39 (raised (negsuc k)) (omega arith) (omega arith) (omega (arith, raised_down k few))
+          ∙ ap Ok (lowered_down k few);
     }
 
 margins_exact : (s m : List ℕ) (k : ℕ) (a : MarginRead) → Margins s m k a → Exact margin_told code_margin a
 margins_exact s m k a p =
     upon (Asked k) s (margin_gate s m k) (margins_small s m k)
-    (λ o t g. let (is, lent) = margin_through s m k g in asked s k o lent.accepted is.rule)
-    (refused_exact RefusedMargin margin_by code_margin (λ why. refl) a)
+    (λ o g. let (within, lent) = margin_through s m k g in asked s k o lent.accepted within)
+    (refused_exact margin_by _ a)
     (λ sh q e.
     subst (Exact margin_told code_margin) (sym e)
     (range_exact _ (margin_range sh q.within (nth_rule sh k) q.among (side sh.atoms m))))
     p.promise
 
-numeric_exact : (x : Item) → Numeric x → Exact part_told code_part (part_is x)
+numeric_exact : (x : Option ℕ) → Numeric x → Exact part_told code_part (Ok x)
 unfolding number_most pick
-numeric_exact _ (number v h) =
-    record { tells = answer_told RefusedPart part_by 40 v (omega arith) (omega arith) (omega arith) }
-numeric_exact _ none = record { tells = answer_told RefusedPart part_by 41 0 (omega arith) (omega arith) (omega arith) }
+numeric_exact _ (number v h) = record { tells = answer_told (found_by 40) 40 v (omega arith) (omega arith) (omega arith) }
+numeric_exact _ none = record { tells = answer_told (found_by 40) 41 0 (omega arith) (omega arith) (omega arith) }
 
 parts_exact : (s : List ℕ) (k p i : ℕ) (a : PartRead) → Parts s k p i a → Exact part_told code_part a
 parts_exact s k p i a r =
-    upon (Asked k) s (part_gate s k p i) (parts_small s k p i)
-    (λ o t g. let (is, accepted) = part_through s k p i g in asked s k o accepted is.rule)
-    (refused_exact RefusedPart part_by code_part (λ why. refl) a)
+    upon (Asked k) s (part_gate s k) (parts_small s k)
+    (λ o g. let (within, accepted) = part_through s k g in asked s k o accepted within)
+    (refused_exact (found_by 40) _ a)
     (λ sh q e.
     subst (Exact part_told code_part) (sym e)
     (numeric_exact _

@@ -1,4 +1,3 @@
-pub mod Raises
 pub mod Tight
 pub mod Whole
 pub mod Stops

@@ -7,12 +7,11 @@ use native.Mathlib.Omega.{arith}
 use lib.ListN.{length, length-map}
 use lib.Dec.{ltb, eqb}
 use borrow.Author.Tests.{ltb-true}
+use Rattle.std.specs.Prelude.{Option, Some, None}
 use Rattle.rules.specs.Limits.{atoms_most, weight_most, number_most}
 use Rattle.rules.specs.Rule.{Rule, Weighted, body, kind_number, atoms_of, weights_of, item_of, part_of}
 use Rattle.rules.specs.declared.kind.Kind.{Kind}
 use Rattle.rules.specs.declared.kind.Kind.TheVariants.{Basic as basic, Constraint as constraint, Choice as choice, Weight as weight}
-use Rattle.rules.specs.declared.Item.{Item}
-use Rattle.rules.specs.declared.Item.TheVariants.{Is as item, Nothing as nothing}
 use Rattle.rules.proofs.Members.{index_mem}
 use Rattle.numbers.specs.Shown.Encode.{Rising}
 use Rattle.numbers.proofs.Places.{pick_so}
@@ -20,9 +19,9 @@ use Rattle.numbers.proofs.lists.Whole.{rising_few}
 use Rattle.sheet.proofs.Sound.{Sound, linked_each, rising_within}
 
 -- a part of a rule is a number of a sheet, or nothing
-pub data Numeric : Item → Type 0 where
-  number : (v : ℕ) → v ≤ number_most → Numeric (item v)
-  none : Numeric nothing
+pub data Numeric : Option ℕ → Type 0 where
+  number : (v : ℕ) → v ≤ number_most → Numeric (Some v)
+  none : Numeric None
 
 item_numeric : (xs : List ℕ) (i : ℕ) → ((x : ℕ) → Memᴰ x xs → x ≤ number_most) → Numeric (item_of xs i)
 unfolding item_of

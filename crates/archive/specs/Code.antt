@@ -3,20 +3,13 @@
 -- rules (sheet: proofs/Accepted.antt `well_formed_law`), and a margin lies from -268,435,455 to 1,024,000,000 (sheet: proofs/Limits.antt
 -- `margin_range`). So no remainder here loses anything of an answer that meets its promise: its number tells it (proofs/Exact.antt, a
 -- theorem for each call, `check_exact` to `rule_exact`).
-use Rattle.std.specs.Prelude.{ℕ, suc, ◌+◌, ◌-◌, ◌*◌, ◌%◌, ◌^◌, ◌≡◌, ℤ, pos, negsuc}
+use Rattle.std.specs.Prelude.{ℕ, suc, ◌+◌, ◌-◌, ◌*◌, ◌%◌, ◌^◌, ◌≡◌, ℤ, pos, negsuc, Bool, true, false, Option, Some, None, Result, Ok, Err}
+use Rattle.numbers.specs.Answer.{reason_number}
 use Rattle.numbers.specs.declared.Refusal.{Refusal}
-use Rattle.desk.specs.declared.Checked.{Checked}
-use Rattle.desk.specs.declared.Checked.TheVariants.{Accepted, Refused as RefusedSheet}
-use Rattle.desk.specs.declared.PartRead.{PartRead}
-use Rattle.desk.specs.declared.PartRead.TheVariants.{Value, Nothing, Refused as RefusedPart}
-use Rattle.desk.specs.declared.Opened.{Opened}
-use Rattle.desk.specs.declared.Opened.TheVariants.{Closed, Contradiction, Refused as RefusedMap}
+use Rattle.desk.specs.Promise.{Checked, PartRead, Opened, Searched, Tested, MarginRead}
+use Rattle.desk.specs.declared.Counts.{Counts}
 use Rattle.desk.specs.declared.Solved.{Solved}
-use Rattle.desk.specs.declared.Solved.TheVariants.{Model, NoModel, Refused as RefusedSolve}
-use Rattle.desk.specs.declared.Tested.{Tested}
-use Rattle.desk.specs.declared.Tested.TheVariants.{Stable, NotStable, Refused as RefusedTest}
-use Rattle.desk.specs.declared.MarginRead.{MarginRead}
-use Rattle.desk.specs.declared.MarginRead.TheVariants.{Is, Refused as RefusedMargin}
+use Rattle.desk.specs.declared.Solved.TheVariants.{Model, NoModel}
 
 -- top * 2^40 + value
 unfoldable pub coded : ℕ → ℕ → ℕ
@@ -33,35 +26,47 @@ raised (negsuc k) = 2 ^ 32 - suc k
 
 -- refusal k at place p
 abbrev pub code_refusal : Refusal → ℕ
-code_refusal why = coded why.number why.place
+code_refusal why = coded (reason_number why.reason) why.place
 
+-- an answer by the coding of its value
+abbrev pub code_answer : {A : Type 0} → (A → ℕ) → Result A Refusal → ℕ
+code_answer coding (Ok x) = coding x
+code_answer coding (Err why) = code_refusal why
+
+-- a number under a top of its own, and nothing under another
+abbrev pub code_found : ℕ → ℕ → Option ℕ → ℕ
+code_found top nothing (Some value) = coded top value
+code_found top nothing None = coded nothing 0
+
+abbrev pub code_counts : Counts → ℕ
+code_counts c = coded 32 (counts c.atoms c.rules)
+
+abbrev pub code_search : Solved → ℕ
+code_search Model = coded 35 0
+code_search NoModel = coded 36 0
+
+abbrev pub code_test : Bool → ℕ
+code_test true = coded 37 0
+code_test false = coded 38 0
+
+-- the coding of each call's answer
 abbrev pub code_checked : Checked → ℕ
-code_checked (Accepted n rules) = coded 32 (counts n rules)
-code_checked (RefusedSheet why) = code_refusal why
+code_checked = code_answer code_counts
 
 abbrev pub code_opened : Opened → ℕ
-code_opened (Closed undecided) = coded 33 undecided
-code_opened Contradiction = coded 34 0
-code_opened (RefusedMap why) = code_refusal why
+code_opened = code_answer (code_found 33 34)
 
-abbrev pub code_solved : Solved → ℕ
-code_solved Model = coded 35 0
-code_solved NoModel = coded 36 0
-code_solved (RefusedSolve why) = code_refusal why
+abbrev pub code_solved : Searched → ℕ
+code_solved = code_answer code_search
 
 abbrev pub code_tested : Tested → ℕ
-code_tested Stable = coded 37 0
-code_tested NotStable = coded 38 0
-code_tested (RefusedTest why) = code_refusal why
+code_tested = code_answer code_test
 
 abbrev pub code_margin : MarginRead → ℕ
-code_margin (Is margin) = coded 39 (raised margin)
-code_margin (RefusedMargin why) = code_refusal why
+code_margin = code_answer (λ margin. coded 39 (raised margin))
 
 abbrev pub code_part : PartRead → ℕ
-code_part (Value value) = coded 40 value
-code_part Nothing = coded 41 0
-code_part (RefusedPart why) = code_refusal why
+code_part = code_answer (code_found 40 41)
 
 -- r hands on an answer that meets the call's promise
 pub record HandsOn {A : Type 0} (Promised : A → Type 0) (coding : A → ℕ) (r : ℕ) : Type 0 where

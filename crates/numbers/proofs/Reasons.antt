@@ -28,8 +28,8 @@ reason_numbered FourthByte = (omega arith, omega arith)
 reason_numbered BoundTooHigh = (omega arith, omega arith)
 
 -- the reason of a number, where it is one's
-by_number : ℕ → Reason
-by_number k =
+pub reason_of : ℕ → Reason
+reason_of k =
     pick (eqb k 1) EndsEarly
     (pick (eqb k 2) NotShortest
     (pick (eqb k 3) Edition
@@ -46,24 +46,24 @@ by_number k =
     (pick (eqb k 14) MarginOnContradiction
     (pick (eqb k 15) FourthByte BoundTooHigh))))))))))))))
 
-found : (r : Reason) → by_number (reason_number r) ≡ r
-unfolding by_number pick
-found EndsEarly = refl
-found NotShortest = refl
-found Edition = refl
-found OutsideLimits = refl
-found UnknownKind = refl
-found NoAtom = refl
-found NotIncreasing = refl
-found BytesLeft = refl
-found TooLong = refl
-found MapTooShort = refl
-found BadPin = refl
-found BadMapByte = refl
-found NoRule = refl
-found MarginOnContradiction = refl
-found FourthByte = refl
-found BoundTooHigh = refl
+pub reason_found : (r : Reason) → reason_of (reason_number r) ≡ r
+unfolding reason_of pick
+reason_found EndsEarly = refl
+reason_found NotShortest = refl
+reason_found Edition = refl
+reason_found OutsideLimits = refl
+reason_found UnknownKind = refl
+reason_found NoAtom = refl
+reason_found NotIncreasing = refl
+reason_found BytesLeft = refl
+reason_found TooLong = refl
+reason_found MapTooShort = refl
+reason_found BadPin = refl
+reason_found BadMapByte = refl
+reason_found NoRule = refl
+reason_found MarginOnContradiction = refl
+reason_found FourthByte = refl
+reason_found BoundTooHigh = refl
 
 pub reasons_apart : (a b : Reason) → reason_number a ≡ reason_number b → a ≡ b
-reasons_apart a b e = sym (found a) ∙ ap by_number e ∙ found b
+reasons_apart a b e = sym (reason_found a) ∙ ap reason_of e ∙ reason_found b
