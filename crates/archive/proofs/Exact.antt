@@ -20,7 +20,7 @@ use Rattle.sheet.proofs.Limits.{Lies, above, below, rule_sound, margin_range}
 use Rattle.sheet.specs.Sheet.{sheet_read}
 use Rattle.gate.specs.Scan.{is_contradiction}
 use Rattle.gate.specs.Gate.{room_gate, test_gate, pin_gate, margin_gate, part_gate}
-use Rattle.gate.proofs.Calls.{room_goes, test_goes, pin_through, margin_through, part_through}
+use Rattle.gate.proofs.Calls.{room_goes, test_goes, pin_goes, margin_goes, part_goes}
 use Rattle.gate.proofs.Places.{checks_small, parts_small, rooms_small, tests_small, pins_small, margins_small}
 use Rattle.desk.specs.Promise.{Checked, PartRead, Opened, Searched, Tested, MarginRead, contradicted, Checks, Opens, Pins, Solves, Tests, Margins, Parts, Ends, PinEnds, SolveEnds, TestEnds}
 use Rattle.desk.specs.declared.Solved.TheVariants.{Model, NoModel}
@@ -96,7 +96,7 @@ opens_exact s m m' a p =
 
 pins_exact : (s m : List ℕ) (atom v : ℕ) (m' : List ℕ) (a : Opened) → Pins s m atom v m' a → Exact opened_told code_opened a
 pins_exact s m atom v m' a p =
-    upon WellFormed s (pin_gate s m atom v) (pins_small s m atom v) (λ o g. within_limits s o (pin_through s m atom v g).lent.accepted)
+    upon WellFormed s (pin_gate s m atom v) (pins_small s m atom v) (λ o g. within_limits s o (pin_goes s m atom v g).lent.accepted)
     (λ why w e. refused_exact (found_by 33) _ a why w e.0)
     (λ sh w e. ended sh (is_contradiction sh.atoms m) w.atoms e)
     p.promise
@@ -149,7 +149,7 @@ range_exact _ (below k h) =
 margins_exact : (s m : List ℕ) (k : ℕ) (a : MarginRead) → Margins s m k a → Exact margin_told code_margin a
 margins_exact s m k a p =
     upon (Asked k) s (margin_gate s m k) (margins_small s m k)
-    (λ o g. let (within, lent) = margin_through s m k g in asked s k o lent.accepted within)
+    (λ o g. let (within, lent) = margin_goes s m k g in asked s k o lent.accepted within)
     (refused_exact margin_by _ a)
     (λ sh q e.
     subst (Exact margin_told code_margin) (sym e)
@@ -164,7 +164,7 @@ numeric_exact _ none = record { tells = answer_told (found_by 40) 41 0 (omega ar
 parts_exact : (s : List ℕ) (k p i : ℕ) (a : PartRead) → Parts s k p i a → Exact part_told code_part a
 parts_exact s k p i a r =
     upon (Asked k) s (part_gate s k) (parts_small s k)
-    (λ o g. let (within, accepted) = part_through s k g in asked s k o accepted within)
+    (λ o g. let (within, accepted) = part_goes s k g in asked s k o accepted within)
     (refused_exact (found_by 40) _ a)
     (λ sh q e.
     subst (Exact part_told code_part) (sym e)

@@ -49,7 +49,6 @@ fn counts(n: u64, rules: u64) -> u64
     n % COUNTS * COUNTS + rules % COUNTS
 }
 
-// A margin is raised so that none is below 0.
 #[tactic(auto, unfolding(crate::specs::Code::raised))]
 fn raised(margin: i64) -> u64
     ensures { result ≡ raised_of margin }

@@ -28,4 +28,3 @@ pub mod Searching
 pub mod Cases
 pub mod Mistakes
 pub mod Tight
-pub mod Signed

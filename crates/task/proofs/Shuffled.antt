@@ -52,3 +52,10 @@ module _ {sh sh' : Sheet} (k : Shuffled sh sh') where
       (λ X h. subst (λ (ls : List Literal). Holding ls X) (sym (computed_same k)) h)
       x
       c
+
+  -- so of every task: opened, closed above a map with literals of its own, and the first model; margin and part are of one row's rule
+  pub performs_shuffled :
+      (m : List ℕ) {ps qs : List Literal} → ps ≡ qs → (x y : Option ClosedMap) (r : Option (List ℕ)) → ClosedFor sh (Holding (computed sh)) x
+      → ClosedFor sh (Over (side sh.atoms m) ps) y → FirstIn sh.atoms (Model sh) r
+      → ClosedFor sh' (Holding (computed sh')) x × ClosedFor sh' (Over (side sh'.atoms m) qs) y × FirstIn sh'.atoms (Model sh') r
+  performs_shuffled m e x y r o c f = (held_shuffled x o, over_shuffled m e y c, first_in r f)
