@@ -10,10 +10,7 @@ use std::io;
 use text::{model_line, none_line};
 
 fn atom_count(sheet: &[u8]) -> usize {
-    match check(sheet) {
-        Ok(counts) => counts.atoms,
-        Err(_) => 0,
-    }
+    check(sheet).map_or(0, |counts| counts.atoms)
 }
 
 fn show_open(rt: &impl Print, sheet: &[u8], map: &mut [u8]) -> io::Result<()> {

@@ -15,36 +15,46 @@ pub(crate) fn show_refusal(rt: &impl Print, why: Refusal) -> io::Result<()> {
     print!(rt; " refused by {} at {}", why.reason.number(), why.place)
 }
 
-pub(crate) fn show_checked(rt: &impl Print, answer: Result<Counts, Refusal>) -> io::Result<()> {
+// An answer, or its refusal.
+fn show_answer<T, F: FnOnce(T) -> io::Result<()>>(
+    rt: &impl Print,
+    answer: Result<T, Refusal>,
+    show: F,
+) -> io::Result<()>
+    requires { (value : _) → F.pre show value }
+{
     match answer {
-        Ok(counts) => print!(rt; " accepted, atoms {}, rules {}", counts.atoms, counts.rules)?,
-        Err(why) => show_refusal(rt, why)?,
+        Ok(value) => show(value),
+        Err(why) => show_refusal(rt, why),
     }
+}
+
+pub(crate) fn show_checked(rt: &impl Print, answer: Result<Counts, Refusal>) -> io::Result<()> {
+    show_answer(rt, answer, |counts| {
+        print!(rt; " accepted, atoms {}, rules {}", counts.atoms, counts.rules)
+    })?;
     println!(rt)
 }
 
-pub(crate) fn show_opened(rt: &impl Print, answer: Result<Option<usize>, Refusal>) -> io::Result<()> {
-    match answer {
-        Ok(Some(undecided)) => print!(rt; " closed, undecided {undecided}")?,
-        Ok(None) => print!(rt; " contradiction")?,
-        Err(why) => show_refusal(rt, why)?,
-    }
+pub(crate) fn show_opened(
+    rt: &impl Print,
+    answer: Result<Option<usize>, Refusal>,
+) -> io::Result<()> {
+    show_answer(rt, answer, |closed| match closed {
+        Some(undecided) => print!(rt; " closed, undecided {undecided}"),
+        None => print!(rt; " contradiction"),
+    })?;
     print!(rt; ":")
 }
 
 pub(crate) fn show_tested(rt: &impl Print, answer: Result<bool, Refusal>) -> io::Result<()> {
-    match answer {
-        Ok(true) => print!(rt; " yes")?,
-        Ok(false) => print!(rt; " no")?,
-        Err(why) => show_refusal(rt, why)?,
-    }
+    show_answer(rt, answer, |agrees| {
+        print!(rt; " {}", if agrees { "yes" } else { "no" })
+    })?;
     println!(rt)
 }
 
 pub(crate) fn show_margin(rt: &impl Print, answer: Result<i64, Refusal>) -> io::Result<()> {
-    match answer {
-        Ok(margin) => print!(rt; " {margin}")?,
-        Err(why) => show_refusal(rt, why)?,
-    }
+    show_answer(rt, answer, |margin| print!(rt; " {margin}"))?;
     println!(rt)
 }

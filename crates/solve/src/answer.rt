@@ -12,10 +12,7 @@ use text::{Line, model_line, none_line, refused_line};
 fn atoms(sheet: &[u8]) -> usize
     ensures { result ≡ atoms_in sheet.now }
 {
-    match read_sheet(sheet) {
-        Ok(outline) => outline.atoms,
-        Err(_) => 0,
-    }
+    read_sheet(sheet).map_or(0, |outline| outline.atoms)
 }
 
 // The line of the sheet's first model, or of why there is none.

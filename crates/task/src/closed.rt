@@ -29,13 +29,8 @@ pub struct ClosedMap {
 fn found(map: [u8; Atom::LAST], closed: Result<u32, Clash>) -> Option<ClosedMap>
     ensures { result ≡ found_in map closed }
 {
-    match closed {
-        Ok(undecided) => Some(ClosedMap {
-            map,
-            undecided: undecided as usize,
-        }),
-        Err(_) => None,
-    }
+    let undecided = closed.ok()? as usize;
+    Some(ClosedMap { map, undecided })
 }
 
 // The smallest closed map above m that holds the compute lists, in its place.
