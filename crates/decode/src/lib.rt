@@ -38,7 +38,7 @@ pub const LARGE_WORDS: usize = PAIR * (LARGE_BYTES + 1);
 
 // How many rules a table holds, and the row of the rule that was asked for.
 #[derive(Clone, Copy, Debug, PartialEq, Eq)]
-pub struct Table {
+pub struct Contents {
     pub rules: usize,
     pub row: usize,
 }
@@ -46,7 +46,7 @@ pub struct Table {
 // Write an accepted sheet as a table: each of its numbers is taken once, and none can be refused. The table holds each rule once; wanted is
 // the index, on the sheet, of a rule whose row is asked for. The compute lists are written as the body of a choice with no heads, which gives and
 // forces nothing.
-pub fn decode(s: &[u8], sheet: Outline, wanted: usize, code: &mut [u32]) -> Table
+pub fn decode(s: &[u8], sheet: Outline, wanted: usize, code: &mut [u32]) -> Contents
     requires { Decodable s.now sheet code.old }
     ensures { Decoded s.now sheet wanted code.old code.new result }
 {
@@ -67,7 +67,7 @@ pub fn decode(s: &[u8], sheet: Outline, wanted: usize, code: &mut [u32]) -> Tabl
         start,
     );
     end_rows(code, rules.count + 1, lists.pair);
-    Table {
+    Contents {
         rules: rules.count,
         row: rules.row,
     }

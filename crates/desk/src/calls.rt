@@ -71,6 +71,7 @@ pub fn solve(s: &[u8], map: &mut [u8]) -> Result<Solved, Refusal>
 {
     let sheet = room_gate(s, map)?;
     let n = sheet.atoms;
+    // not by `hand`: a model has no number beside it
     match on_table(s, sheet, 0, |t, _| first_model(&t)) {
         Some(model) => {
             copy(&model, n, map);

@@ -33,7 +33,8 @@ fn on_words<const W: usize, R, F: FnOnce(Table<'_>, TableRow<'_>) -> R>(
 }
 
 // The call's work on the table of an accepted sheet, and on the row of the rule at an index. A shorter sheet has a smaller table: five sizes, since
-// an array's size is a constant and there is no heap.
+// an array's size is a constant and there is no heap. A call that asks for no rule gives 0 and leaves the row: decode notes a row in any case, so
+// that an Option would be made an index here again.
 pub(crate) fn on_table<R, F: FnOnce(Table<'_>, TableRow<'_>) -> R>(
     s: &[u8],
     sheet: Outline,

@@ -61,8 +61,5 @@ pub fn place_after(step: NextRule, place: Place) -> Place
 pub fn past_last(place: Place) -> bool
     ensures { result ≡ at_end place }
 {
-    match place {
-        Ok(rest) => rest.left == 0,
-        Err(_) => false,
-    }
+    place.is_ok_and(|rest| rest.left == 0)
 }

@@ -20,5 +20,5 @@ pub(crate) fn put_spaced(line: &mut Line, x: usize)
 pub(crate) fn is_in(map: &[u8], i: usize) -> bool
     ensures { result ≡ is_in map.now i }
 {
-    i < map.len() && map[i] == 1
+    map.get(i).copied().unwrap_or(0) == 1
 }

@@ -9,7 +9,7 @@ use Rattle.sheet.specs.declared.Outline.{Outline}
 use Rattle.table.specs.Inner.Words.{pair_width}
 use Rattle.table.specs.Inner.Rows.{table_sheet, Laid}
 use Rattle.decode.specs.declared.rows.Rows.{Rows}
-use Rattle.decode.specs.declared.Table.{Table}
+use Rattle.decode.specs.declared.Contents.{Contents}
 use Rattle.decode.specs.Inner.Rows.{first_pair, lists_rule, TableRoom, RowHas, Stood}
 
 -- how many words the table of a sheet of so many bytes needs
@@ -45,7 +45,7 @@ pub record WritesRules (s : List ℕ) (o : Outline) (wanted : ℕ) (c c' : List 
   pub long : length c' ≡ length c
 
 -- the table is that of a sheet, but that it holds each rule once; and the row of the rule at this index
-pub record Decoded (s : List ℕ) (o : Outline) (wanted : ℕ) (c c' : List ℕ) (t : Table) : Type 0 where
+pub record Decoded (s : List ℕ) (o : Outline) (wanted : ℕ) (c c' : List ℕ) (t : Contents) : Type 0 where
   pub laid : Laid c' o.atoms t.rules
   pub sheet : Shuffled (table_sheet c' o.atoms t.rules) (sheet_meant s o)
   pub row : wanted < o.rules.value → RowHas c' t.rules (get_or (sheet_meant s o).rules wanted no_rule) t.row

@@ -17,7 +17,7 @@ use Rattle.sheet.proofs.sheet.Ran.{sheet_ran}
 use Rattle.table.specs.Inner.Words.{pair_width}
 use Rattle.table.specs.Inner.Rows.{row_rule, table_sheet}
 use Rattle.decode.specs.Inner.Decode.{table_words, Decodable, Decoded}
-use Rattle.decode.specs.declared.Table.{Table}
+use Rattle.decode.specs.declared.Contents.{Contents}
 use Rattle.weigh.proofs.Bytes.{blank_room}
 use Rattle.desk.specs.Inner.Run.{Stands}
 
@@ -33,7 +33,7 @@ module _ (s : List ℕ) (o : Outline) (e : sheet_read s ≡ Ok o) where
   unfolding table_words pair_width
   few_words most h = omega (arith, h)
 
-module _ {s : List ℕ} {o : Outline} {wanted : ℕ} {c c' : List ℕ} {table : Table} (d : Decoded s o wanted c c' table) where
+module _ {s : List ℕ} {o : Outline} {wanted : ℕ} {c c' : List ℕ} {table : Contents} (d : Decoded s o wanted c c' table) where
   -- the row is one of the table's
   pub row_there : wanted ≤ o.rules.value - 1 → table.row ≤ table.rules
   row_there h =
