@@ -66,10 +66,10 @@ pub fn held(t: &Table, m: &[u8]) -> Option<ClosedMap>
     requires { MapBytes t.now.atoms m.now }
     ensures { ClosedFor (table_sheet t.now.code.now t.now.atoms t.now.rules) (Over (side t.now.atoms m.now) (computed (table_sheet t.now.code.now t.now.atoms t.now.rules))) result }
 {
-    let mut map = [0u8; Atom::LAST];
-    copy(m, t.atoms as usize, &mut map);
-    let closed = close_held(t, &mut map);
-    found(map, closed)
+    let mut above = [0u8; Atom::LAST];
+    copy(m, t.atoms as usize, &mut above);
+    let closed = close_held(t, &mut above);
+    found(above, closed)
 }
 
 // The smallest closed map above m that holds a pin.
