@@ -1,6 +1,6 @@
 -- Counts only fall as a map grows, so a rule that can still give an atom whose count was 1 is the one rule that can.
 use Prim.Native.Nat.{ℕ, ◌+◌, ◌-◌, ◌≤◌, ◌<◌}
-use mathlib.Core.Path.{◌≡◌, refl, sym, ◌∙◌, ap}
+use mathlib.Core.Path.{◌≡◌, refl, sym, ◌∙◌}
 use mathlib.Core.Bool.{Bool, true, false}
 use mathlib.Core.List.{List, Memᴰ}
 use native.Mathlib.Omega.{arith}

@@ -16,8 +16,8 @@ use Rattle.std.specs.List.{position_or_len}
 use Rattle.rules.proofs.Tests.{T_eq, true_T}
 use Rattle.rules.specs.Sum.{counted, tally}
 use Rattle.rules.specs.Rule.{Rule, Within}
-use Rattle.rules.specs.Map.{Map, side, ◌⊑◌, undecided}
-use Rattle.rules.specs.Forcing.{Closed, Least}
+use Rattle.rules.specs.Map.{Map, side, undecided}
+use Rattle.rules.specs.Forcing.{Closed}
 use Rattle.rules.specs.Inner.Bytes.{MapBytes}
 use Rattle.rules.proofs.Maps.{decided_within}
 use Rattle.rules.proofs.Bytes.{side_at}
@@ -25,13 +25,12 @@ use Rattle.table.specs.Inner.Rows.{row_rule, table_rules, Laid}
 use Rattle.table.proofs.Rows.{Standing, rule_stands, rule_mem, laid_fits}
 use Rattle.weigh.specs.Inner.Step.{Outcome, Step, Till, Kept, Forces}
 use Rattle.std.specs.Prelude.{Ok, Err, Option, Some, None, is_some, count_by, position, nat_lt, ◌==◌}
-use Rattle.weigh.specs.declared.Clash.{Clash}
 use Rattle.weigh.proofs.Bytes.{proper_map, equal?}
-use Rattle.weigh.proofs.Steps.{kept_refl, kept_trans, forces_trans, step_same, quieter, step_joined}
+use Rattle.weigh.proofs.Steps.{step_same, quieter, step_joined}
 use Rattle.forcing.specs.Inner.Heads.{Settled, SettlesAll}
 use Rattle.forcing.specs.Inner.Support.{Counts, Backed, BacksAll}
 use Rattle.forcing.specs.Inner.Ground.{ListsFounded, Drops, Unless}
-use Rattle.forcing.specs.Inner.Rounds.{FirstWith, NoneWith, Forcing, BackedAll, FoundedAll, ClosesMap}
+use Rattle.forcing.specs.Inner.Rounds.{FirstWith, NoneWith, Forcing, BackedAll, FoundedAll}
 use Rattle.forcing.proofs.Founding.{unfounded_out}
 use Rattle.forcing.proofs.Counting.{one_told, only_once}
 

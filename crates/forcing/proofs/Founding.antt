@@ -1,16 +1,15 @@
 -- Sweeps until nothing is added give U: every set that holds what U must hold is a map above the blank one, so what is gathered is in
 -- it, and a clash is none, since the atoms that are not out are such a set. An atom outside U is not founded, so it is out in every
 -- closed map.
-use Prim.Native.Nat.{ℕ, ◌+◌, ◌≤◌, ◌<◌}
+use Prim.Native.Nat.{ℕ, ◌+◌, ◌≤◌}
 use mathlib.Core.Path.{◌≡◌, refl, sym, ◌∙◌, subst}
 use mathlib.Core.Bool.{Bool, true, false, cond}
 use mathlib.Core.List.{List, Memᴰ}
-use native.Mathlib.Omega.{arith}
 use lib.Dec.{T, eqb}
 use Rattle.rules.specs.Sum.{has}
 use Rattle.rules.specs.Rule.{Rule, Weighted, Within, body}
 use Rattle.rules.specs.Stable.{Set, value}
-use Rattle.rules.specs.Map.{Map, side, is, isnt, ◌⊑◌, undecided}
+use Rattle.rules.specs.Map.{Map, side, is, isnt, ◌⊑◌}
 use Rattle.rules.specs.Forcing.{Closed, Grounds, Founded}
 use Rattle.rules.specs.Inner.Bytes.{MapBytes}
 use Rattle.rules.proofs.Tests.{eq_T, T_eq, ne_T, T_ne}
@@ -22,7 +21,7 @@ use Rattle.table.proofs.Rows.{Standing, rule_stands}
 use Rattle.weigh.specs.Inner.Step.{Concludes, Kept, Outcome, Till, Forces}
 use Rattle.std.specs.Prelude.{Ok, Err}
 use Rattle.weigh.specs.declared.Clash.{Clash}
-use Rattle.weigh.proofs.Steps.{after, kept_refl, kept_trans, forces_trans, concludes_on, clash_any, steps_more, steps_end}
+use Rattle.weigh.proofs.Steps.{after, kept_trans, concludes_on, clash_any, steps_more}
 use Rattle.forcing.specs.Inner.Ground.{PutsUnless, Unless, Grounding, Grounded, GroundsAll, Blank, ListsFounded, Drops}
 use Rattle.forcing.proofs.Groundings.{sided_out, kept_unless, step_unless}
 

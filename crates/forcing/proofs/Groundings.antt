@@ -1,7 +1,7 @@
 -- Gathering U: what a rule gives from atoms of U is in every set that holds what U must hold, so U stays below each of them; and
 -- where nothing is added in a sweep, U holds it all. The atoms that are not out are one such set, so none of U is out.
 use Prim.Native.Nat.{ℕ, ◌+◌, ◌≤◌, ◌<◌}
-use mathlib.Core.Path.{◌≡◌, refl, sym, ◌∙◌, ap, subst}
+use mathlib.Core.Path.{◌≡◌, sym, ◌∙◌, ap, subst}
 use mathlib.Core.Bool.{Bool, true, false}
 use mathlib.Core.Logic.{⊎_elim}
 use mathlib.Core.List.{List, Memᴰ}
@@ -16,12 +16,12 @@ use Rattle.rules.proofs.Value.{by, value_mono}
 use Rattle.table.specs.Inner.Words.{pair_atom}
 use Rattle.table.specs.Inner.Rows.{heads_at, positives_at, need_at, row_rule, Row}
 use Rattle.table.proofs.Words.{AtomFound, atoms_listed, atoms_has}
-use Rattle.weigh.specs.Inner.Step.{Concludes, Decided, Kept, Outcome, Step, Till, Puts}
+use Rattle.weigh.specs.Inner.Step.{Concludes, Decided, Kept, Outcome, Step, Till}
 use Rattle.std.specs.Prelude.{Ok, Err}
 use Rattle.weigh.specs.declared.Clash.{Clash}
 use Rattle.weigh.proofs.Bytes.{equal?}
-use Rattle.weigh.proofs.Steps.{after, kept_refl, kept_trans, kept_put, concludes_on, step_same, quieter, steps_more, steps_end, step_put, clash_any}
-use Rattle.forcing.specs.Inner.Ground.{PutsUnless, Unless, Grounding, Grounded, Full, Lacks, Misses, GroundsHeads, GroundsRule}
+use Rattle.weigh.proofs.Steps.{after, kept_refl, kept_trans, kept_put, concludes_on, step_same, quieter, steps_more, step_put, clash_any}
+use Rattle.forcing.specs.Inner.Ground.{PutsUnless, Unless, Grounding, Grounded, Full, Lacks, GroundsHeads, GroundsRule}
 use Rattle.forcing.proofs.HeadScans.{Sofar, scan_end}
 
 pub sided_in : Decided 1

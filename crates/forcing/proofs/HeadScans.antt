@@ -1,9 +1,7 @@
 -- A scan of a rule's heads, one pair after another: what holds of each head before the present one holds of all at the end.
-use Prim.Native.Nat.{ℕ, ◌+◌, ◌≤◌, ◌<◌}
-use mathlib.Core.Path.{◌≡◌, sym, subst}
-use mathlib.Core.Logic.{⊎_elim}
+use Prim.Native.Nat.{ℕ, ◌≤◌, ◌<◌}
+use mathlib.Core.Path.{sym, subst}
 use mathlib.Core.List.{List}
-use native.Mathlib.Nat.{eq-or-lt_of_le}
 use native.Mathlib.Omega.{arith}
 use lib.Dec.{T}
 use Rattle.rules.specs.Sum.{has}

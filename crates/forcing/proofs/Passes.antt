@@ -2,10 +2,9 @@
 use Prim.Native.Nat.{ℕ, ◌<◌}
 use mathlib.Core.Path.{◌≡◌, refl, subst}
 use mathlib.Core.Bool.{Bool, true, false}
-use mathlib.Core.List.{List}
 use native.Mathlib.Omega.{arith}
 use Rattle.rules.specs.Map.{Map}
-use Rattle.weigh.specs.Inner.Step.{Outcome, Step, Till}
+use Rattle.weigh.specs.Inner.Step.{Till}
 use Rattle.forcing.specs.Inner.Pass.{placed}
 
 pub placed_less : (down : Bool) (count i : ℕ) → i < count → placed down count i < count

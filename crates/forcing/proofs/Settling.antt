@@ -5,13 +5,12 @@ use mathlib.Core.Path.{◌≡◌, refl, sym, ◌∙◌, ap, subst}
 use mathlib.Core.Bool.{Bool, true, false, not}
 use mathlib.Core.List.{List, Memᴰ}
 use native.Mathlib.Omega.{arith}
-use lib.Dec.{T, T_not}
+use lib.Dec.{T}
 use Rattle.rules.specs.Sum.{has}
 use Rattle.rules.specs.Rule.{Rule, Within, chooses}
 use Rattle.rules.specs.Map.{Map, side, want, sure}
 use Rattle.rules.specs.Forcing.{Closed}
 use Rattle.rules.specs.Inner.Bytes.{MapBytes}
-use Rattle.rules.proofs.Tests.{true_T}
 use Rattle.rules.proofs.Forced.{forced_first, forced_third}
 use Rattle.table.specs.Inner.Words.{pair_atom}
 use Rattle.table.specs.Inner.Rows.{heads_at, positives_at, kind_at, need_at, row_rule, Row}

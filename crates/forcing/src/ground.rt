@@ -111,8 +111,8 @@ pub fn drop_all(n: u32, u: &[u8], m: &mut [u8]) -> Result<bool, Clash>
     ensures { Drops n u.now m.old (n + 1) m.new result }
 {
     let mut grew = false;
-    for a in 0..n {
-        grew |= put_unless(n, u, a + 1, IN, OUT, m)?;
+    for a in 1..=n {
+        grew |= put_unless(n, u, a, IN, OUT, m)?;
     }
     Ok(grew)
 }

@@ -14,10 +14,11 @@ use table::{Table, TableRow};
 use weigh::{Clash, IN, press_body, reach, side_of};
 
 // One more than a count: none, one, or more.
+#[tactic(auto, unfolding(crate::specs::Inner::Support::up_to_two))]
 fn one_more(count: u8) -> u8
     ensures { result ≡ up_to_two (count + 1) }
 {
-    if count == 0 { 1 } else { 2 }
+    count.saturating_add(1).min(2)
 }
 
 // One more for the atom of pair j, if it is in.
