@@ -30,7 +30,7 @@ fn ended(text: Line) -> Line
 }
 
 // The line of a model: the atoms of 1 to n whose byte in the map is 1, atom a at index a - 1. A sheet has no more atoms than
-// Atom::LAST, so a larger n counts as that.
+// Atom::LAST, so a larger n counts as that; the map may have fewer bytes than n, so the index goes by n.
 pub fn model_line(map: &[u8], n: usize) -> Line
     ensures { Spells result (model_line (min n atoms_most) map.now) }
 {
