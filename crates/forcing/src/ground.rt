@@ -104,15 +104,15 @@ pub fn founded(t: &Table, m: &[u8], u: &mut [u8])
     }
 }
 
-// Every atom that is not in u is out.
+// Every atom that is not in u is out. Tried over `1..=n`: solving took 2 to 4 in 100 longer.
 pub fn drop_all(n: u32, u: &[u8], m: &mut [u8]) -> Result<bool, Clash>
     requires founded { MapBytes n u.now }
     requires map { MapBytes n m.old }
     ensures { Drops n u.now m.old (n + 1) m.new result }
 {
     let mut grew = false;
-    for a in 1..=n {
-        grew |= put_unless(n, u, a, IN, OUT, m)?;
+    for a in 0..n {
+        grew |= put_unless(n, u, a + 1, IN, OUT, m)?;
     }
     Ok(grew)
 }

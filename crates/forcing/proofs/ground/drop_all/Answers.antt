@@ -1,11 +1,8 @@
 -- `forcing::ground::drop_all`: the atoms before the present one that are not in U are out, or something was added.
-use Prim.Native.Nat.{ℕ, ◌+◌}
-use mathlib.Core.Path.{◌≡◌, subst}
-use mathlib.Core.Bool.{◌||◌}
+use Prim.Native.Nat.{◌+◌}
 use native.Mathlib.Omega.{arith}
 use Rattle.std.specs.Prelude.{Ok, Err}
 use Rattle.weigh.proofs.Steps.{clashed}
-use Rattle.forcing.specs.Inner.Ground.{Drops}
 use Rattle.forcing.proofs.Founding.{drop_more, drop_clash}
 use Rattle.forcing.proofs.ground.drop_all.Goals as goal
 
@@ -13,20 +10,12 @@ pub returns-in_err-grew : goal.returns-in_err-grew
 returns-in_err-grew c =
     let a = c.args in
     rw (clashed _ c.from_residual.ensures.0)
-    (drop_clash a.n a.u.now a.m.now c.requires.map (c.loop-a.a + 1) (a.n + 1) _
-    (drop_more a.n a.u.now a.m.now c.requires.map c.loop-a.a _ _ c.loop-a.grew (Err (record {})) (omega arith)
+    (drop_clash a.n a.u.now a.m.now c.requires.map (c.loop-a.a + 1 + 1) (a.n + 1) _
+    (drop_more a.n a.u.now a.m.now c.requires.map (c.loop-a.a + 1) _ _ c.loop-a.grew (Err (record {})) (omega arith)
     (omega (arith, c.loop-a-test.true)) c.loop-a.invariant c.in_err-grew.ensures))
 
 pub loop-a-preserved : goal.loop-a-preserved
 loop-a-preserved c =
     let a = c.args in
-    drop_more a.n a.u.now a.m.now c.requires.map c.loop-a.a _ _ c.loop-a.grew (Ok c.in_ok-grew.field-0) (omega arith)
+    drop_more a.n a.u.now a.m.now c.requires.map (c.loop-a.a + 1) _ _ c.loop-a.grew (Ok c.in_ok-grew.field-0) (omega arith)
     (omega (arith, c.loop-a-test.true)) c.loop-a.invariant c.in_ok-grew.ensures
-
-pub returns-in_ok-grew : goal.returns-in_ok-grew
-returns-in_ok-grew c =
-    let a = c.args in
-    let last : c.loop-a.a ≡ a.n = omega (arith, c.loop-a.auto.a-end, c.loop-a-test.true) in
-    subst (λ (k : ℕ). Drops a.n a.u.now a.m.now (k + 1) c.put_unless.new.w (Ok (c.loop-a.grew || c.in_ok-grew.field-0))) last
-    (drop_more a.n a.u.now a.m.now c.requires.map c.loop-a.a _ _ c.loop-a.grew (Ok c.in_ok-grew.field-0) (omega arith)
-    (omega (arith, last)) c.loop-a.invariant c.in_ok-grew.ensures)
