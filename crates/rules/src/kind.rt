@@ -10,6 +10,15 @@ pub enum Kind {
     Weight = 5,
 }
 
+// The same numbers, as they stand on a sheet.
+pub const BASIC: usize = Kind::Basic as usize;
+
+pub const CONSTRAINT: usize = Kind::Constraint as usize;
+
+pub const CHOICE: usize = Kind::Choice as usize;
+
+pub const WEIGHT: usize = Kind::Weight as usize;
+
 impl Kind {
     // The number by which a sheet writes the kind.
     pub fn number(self) -> usize
@@ -32,10 +41,10 @@ impl Kind {
         ensures { result ≡ checked_kind number }
     {
         match number {
-            1 => Some(Kind::Basic),
-            2 => Some(Kind::Constraint),
-            3 => Some(Kind::Choice),
-            5 => Some(Kind::Weight),
+            BASIC => Some(Kind::Basic),
+            CONSTRAINT => Some(Kind::Constraint),
+            CHOICE => Some(Kind::Choice),
+            WEIGHT => Some(Kind::Weight),
             _ => None,
         }
     }

@@ -4,7 +4,7 @@
 ghost use Rattle.std.specs.Prelude.{◌≡◌};
 ghost use Rattle.rules.specs.Number.{checked_atom, checked_rule};
 
-mod kind;
+pub mod kind;
 
 pub use kind::Kind;
 
