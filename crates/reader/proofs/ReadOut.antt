@@ -24,7 +24,7 @@ use Rattle.sheet.specs.declared.Outline.{Outline}
 use Rattle.sheet.proofs.Accepted.{outlined}
 use Rattle.sheet.proofs.sheet.Rules.{rules_next, rules_more}
 use Rattle.sheet.proofs.sheet.Ran.{parts}
-use Rattle.reader.specs.Place.{Place, NextRule, all_rules, after, stepped, first_place, rest_step, step_at, place_after}
+use Rattle.reader.specs.Place.{Place, NextRule, stop_at, all_rules, after, stepped, first_place, rest_step, step_at, place_after}
 use Rattle.reader.specs.Reader.{start_of, next_of, moved_to}
 use Rattle.reader.specs.ReadOut.{ReadOut, stopped, and_rule, step_then, read_on, left_at, read_all, read_by, read_through}
 use Rattle.reader.specs.declared.Reader.{Reader}
@@ -46,9 +46,9 @@ unfolding step_at rest_step pick read_then
 step_read s n left at r e =
     ap
     (λ (none : Bool). pick none (Ok None)
-    (read_then Err (rule_at s n at) (λ rule. stepped rule (after (rest n (suc left) at) rule))))
+    (read_then stop_at (rule_at s n at) (λ rule. stepped rule (after (rest n (suc left) at) rule))))
     (ne_eqb (suc left) 0 (λ z. omega arith))
-    ∙ ap (λ (a : Result SheetRule Refusal). read_then Err a (λ rule. stepped rule (after (rest n (suc left) at) rule))) e
+    ∙ ap (λ (a : Result SheetRule Refusal). read_then stop_at a (λ rule. stepped rule (after (rest n (suc left) at) rule))) e
     ∙ ap (λ (m : ℕ). stepped r (rest n m r.next)) fewer
   where
     fewer : suc left - 1 ≡ left
@@ -80,7 +80,7 @@ read_rules s n (suc left) before done p e =
 
 first_at : (s : List ℕ) (o : Outline) → sheet_read s ≡ Ok o → first_place s ≡ Ok (all_rules o)
 unfolding first_place read_then
-first_at s o e = ap (λ (c : Result Outline Refusal). read_then Err c (λ sheet. Ok (all_rules sheet))) e
+first_at s o e = ap (λ (c : Result Outline Refusal). read_then stop_at c (λ sheet. Ok (all_rules sheet))) e
 
 read_from : (s : List ℕ) (place : Place) → first_place s ≡ place → read_all s ≡ read_on (left_at place) s place
 unfolding read_all
@@ -106,18 +106,18 @@ read_in_order s sh e =
     }
 
 -- of a refused sheet: no rule, and the refusal
-pub handed_up : (s : List ℕ) (why : Refusal) → sheet_of s ≡ refused why → read_all s ≡ stopped (Err why)
+pub handed_up : (s : List ℕ) (why : Refusal) → sheet_of s ≡ refused why → read_all s ≡ stopped (stop_at why)
 unfolding sheet_of read_then first_place read_on step_at
 handed_up s why e = by (sheet_read s) refl e
   where
     by :
         (c : Result Outline Refusal) → sheet_read s ≡ c → read_then {A = Meaning} refused c (λ o. accepted (sheet_meant s o)) ≡ refused why
-        → read_all s ≡ stopped (Err why)
+        → read_all s ≡ stopped (stop_at why)
     by (Ok o) h z = let w : ◌≡◌ {A = ℕ} 0 1 = cc in absurd (omega arith)
     by (Err w) h z =
         let v : w ≡ why = cc in
-        read_from s (Err why)
-        (ap (λ (c : Result Outline Refusal). read_then Err c (λ sheet. Ok (all_rules sheet))) h ∙ ap (λ (t : Refusal). Err t) v)
+        read_from s (stop_at why)
+        (ap (λ (c : Result Outline Refusal). read_then stop_at c (λ sheet. Ok (all_rules sheet))) h ∙ ap (λ (t : Refusal). stop_at t) v)
 
 -- a reader that moves on reads the same: after a rule it stands at the place that came with it
 same_reading : (more : ℕ) (r : Reader) → read_by more r ≡ read_on more r.sheet.now r.place

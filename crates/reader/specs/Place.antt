@@ -10,19 +10,25 @@ use Rattle.sheet.specs.declared.SheetRule.{SheetRule}
 use Rattle.sheet.specs.declared.Outline.{Outline}
 use Rattle.reader.specs.declared.Rest.{Rest}
 use Rattle.reader.specs.declared.Step.{Step}
+use Rattle.reader.specs.declared.Stop.{Stop}
+use Rattle.reader.specs.declared.Stop.TheVariants.{Refused}
 
 abbrev pub Place : Type 0
-Place = Result Rest Refusal
+Place = Result Rest Stop
 
 abbrev pub NextRule : Type 0
-NextRule = Result (Option Step) Refusal
+NextRule = Result (Option Step) Stop
+
+-- a refusal of the sheet, handed up
+abbrev pub stop_at : {A : Type 0} → Refusal → Result A Stop
+stop_at why = Err (Refused why)
 
 -- all the rules of an accepted sheet
 abbrev pub all_rules : Outline → Rest
 all_rules sheet = record { atoms = sheet.atoms; left = sheet.rules.value; at = sheet.rules.first }
 
 unfoldable pub first_place : List ℕ → Place
-first_place s = read_then Err (sheet_read s) (λ sheet. Ok (all_rules sheet))
+first_place s = read_then stop_at (sheet_read s) (λ sheet. Ok (all_rules sheet))
 
 -- the rules that are left after this one
 abbrev pub after : Rest → SheetRule → Rest
@@ -34,10 +40,11 @@ stepped rule rest = Ok (Some (record { rule = rule; place = Ok rest }))
 
 unfoldable pub rest_step : List ℕ → Rest → NextRule
 rest_step s rest =
-    pick (eqb rest.left 0) (Ok None) (read_then Err (rule_at s rest.atoms rest.at) (λ rule. stepped rule (after rest rule)))
+    pick (eqb rest.left 0) (Ok None) (read_then stop_at (rule_at s rest.atoms rest.at) (λ rule. stepped rule (after rest rule)))
 
 unfoldable pub step_at : List ℕ → Place → NextRule
-step_at s place = read_then Err place (λ rest. rest_step s rest)
+step_at s (Ok rest) = rest_step s rest
+step_at s (Err stop) = Err stop
 
 -- the place after a step: only a rule that was read moves it on
 unfoldable pub place_after : NextRule → Place → Place

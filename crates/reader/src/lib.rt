@@ -3,6 +3,7 @@
 #![tactic(auto)]
 
 ghost use Rattle.std.specs.Prelude.{◌≡◌};
+ghost use Rattle.reader.specs.declared.Stop.TheVariants.{Refused};
 ghost use Rattle.reader.specs.Reader.{start_of, next_of, moved_to, moved_on, is_end, first_step};
 
 pub mod steps;
@@ -20,8 +21,24 @@ pub struct Rest {
     pub at: usize,
 }
 
+// What a place has in the stead of rules: why its sheet is refused. A place is a value that may come in, so it may also be one that no reader
+// made, of any number: that is handed up as it came.
+#[derive(Clone, Copy, Debug, PartialEq, Eq)]
+pub enum Stop {
+    Refused(Refusal),
+    Given { number: usize, place: usize },
+}
+
+impl From<Refusal> for Stop {
+    ghost from_gives = { λ why stop. stop ≡ Refused why };
+
+    fn from(why: Refusal) -> Stop {
+        Stop::Refused(why)
+    }
+}
+
 // Where a reader stands: before the rules that are left, or at the refusal of its sheet.
-pub type Place = Result<Rest, Refusal>;
+pub type Place = Result<Rest, Stop>;
 
 // A rule that was read, and the place after it: as a value that may come in, any place.
 #[derive(Clone, Copy, Debug, PartialEq, Eq)]
@@ -30,8 +47,8 @@ pub struct Step {
     pub place: Place,
 }
 
-// What one step finds: a rule and those after it, None at the end of the rules, or a refusal.
-pub type NextRule = Result<Option<Step>, Refusal>;
+// What one step finds: a rule and the place after it, None at the end of the rules, or a refusal.
+pub type NextRule = Result<Option<Step>, Stop>;
 
 #[derive(Clone, Copy)]
 pub struct Reader<'a> {
@@ -49,14 +66,14 @@ pub fn start<'a>(sheet: &'a [u8]) -> Reader<'a>
     }
 }
 
-// The rule at the reader's place and those after it, or the end, or the refusal.
+// The rule at the reader's place and the place after it, or the end, or the refusal.
 pub fn next<'a>(r: Reader<'a>) -> NextRule
     ensures { result ≡ next_of r.entry }
 {
     step_at(r.sheet, r.place)
 }
 
-// The reader at another place of its sheet: after a rule, before those that are left.
+// The reader at another place of its sheet: after a rule, at the place that came with it.
 pub fn moved<'a>(r: Reader<'a>, place: Place) -> Reader<'a>
     ensures { result ≡ moved_to r.entry place }
 {
@@ -84,7 +101,7 @@ pub fn at_end<'a>(r: Reader<'a>) -> bool
     past_last(r.place)
 }
 
-// The first step on a sheet. Its caller has no reader, and goes on by `step_at` at the rules that are left.
+// The first step on a sheet. Its caller has no reader, and goes on by `step_at` at the place that came with the rule.
 pub fn first_step(s: &[u8]) -> NextRule
     ensures { result ≡ first_step s.now }
 {

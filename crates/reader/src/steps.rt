@@ -45,7 +45,7 @@ pub fn step_at(s: &[u8], place: Place) -> NextRule
     rest_step(s, place?)
 }
 
-// The place after a step: after a rule that was read, before those that are left, and else the same.
+// The place after a step: after a rule that was read, the place that came with it, and else the same.
 #[tactic(auto, unfolding(crate::specs::Place::place_after))]
 pub fn place_after(step: NextRule, place: Place) -> Place
     ensures { result ≡ place_after step place }
