@@ -2,8 +2,8 @@
 #![tactic(auto)]
 
 pub mod calls;
-mod hand;
-mod run;
+pub mod hand;
+pub mod run;
 
 pub use calls::{check, margin, open, part, pin, solve, test};
 

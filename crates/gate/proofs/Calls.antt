@@ -6,21 +6,22 @@ use mathlib.Core.List.{List, [], ◌∷◌}
 use native.Mathlib.Omega.{arith}
 use lib.ListN.{length}
 use borrow.Author.Tests.{le-ltb, ltb-false}
-use Rattle.std.specs.Prelude.{Ok, Err}
+use Rattle.std.specs.Prelude.{Option, Some, None, Result, Ok, Err}
 use Rattle.rules.specs.Rule.{Within}
 use Rattle.rules.specs.declared.RuleNo.{RuleNo}
+use Rattle.rules.specs.Sum.{pick}
 use Rattle.rules.specs.Map.{Whole, inside}
 use Rattle.rules.specs.Inner.Bytes.{Room}
 use Rattle.rules.proofs.Inside.{inside_within}
 use Rattle.rules.proofs.Tests.{T_and_left, T_and_right, true_T}
-use Rattle.numbers.specs.Answer.{refusal}
+use Rattle.numbers.specs.Answer.{refusal, read_then}
 use Rattle.numbers.specs.declared.Refusal.{Refusal}
 use Rattle.numbers.specs.declared.reason.Reason.TheVariants.{BadPin}
 use Rattle.sheet.specs.Sheet.{sheet_read}
 use Rattle.sheet.specs.declared.Outline.{Outline}
-use Rattle.gate.specs.Scan.{map_fault}
+use Rattle.gate.specs.Scan.{map_fault, is_contradiction}
 use Rattle.gate.specs.declared.Pin.{Pin}
-use Rattle.gate.specs.Gate.{Test, stop_if, room, is_pin, no_fault, gate, tested, room_gate, open_gate, solve_gate, test_gate, pin_gate, margin_gate, part_gate, pin_of, rule_of, with_pin, with_rule}
+use Rattle.gate.specs.Gate.{Test, stop_if, room, is_pin, no_fault, gate, tested, beside, room_gate, open_gate, solve_gate, test_gate, pin_gate, margin_gate, part_gate, pin_of, rule_of, then_stay, with_pin, with_rule}
 use Rattle.gate.proofs.Tests.{beside_goes, not_stopped, no_stop, stops, gate_goes, sheet_passes, test_passes, test_stops, all_tested}
 use Rattle.gate.proofs.scan.Maps.{model_fine}
 
@@ -36,10 +37,10 @@ pub record PinLent (s m : List ℕ) (a v : ℕ) (o : Outline) : Type 0 where
   pub side : Within 2 v
   pub fine : o.atoms ≤ map_fault o.atoms m
 
--- a pin that was let through: it is the one that was asked for
-pub record Through (s m : List ℕ) (a v : ℕ) (o : Outline) (pin : Pin) : Type 0 where
+-- a pin that was let through: it is the one that was asked for, and on a contradiction there is none
+pub record Through (s m : List ℕ) (a v : ℕ) (o : Outline) (pin : Option Pin) : Type 0 where
   pub goes : PinLent s m a v o
-  pub asked : pin ≡ pin_of a v
+  pub asked : pin ≡ then_stay o.atoms m (pin_of a v)
 
 -- a rule's number that was
 pub record AskedRule (o : Outline) (k : ℕ) (rule : RuleNo) : Type 0 where
@@ -61,6 +62,24 @@ fault_passed n place e = ltb-false place n (not_stopped _ _ e)
 
 inside_passed : (n k : ℕ) (why : Refusal) → stop_if (not (inside n k)) why ≡ Ok tt → Within n k
 inside_passed n k why e = inside_within n k (true_T (passed_not _ why e))
+
+-- a pin that is handed on is the one that was asked for, and the map is no contradiction; where none is handed on, it is one
+module _ (n : ℕ) (m : List ℕ) (p : Pin) where
+  pub handed_on : {q : Pin} → then_stay n m p ≡ Some q → (is_contradiction n m ≡ false) × (p ≡ q)
+  unfolding pick
+  handed_on {q} e = by (is_contradiction n m) e
+    where
+      by : (b : Bool) → pick {A = Option Pin} b None (Some p) ≡ Some q → (b ≡ false) × (p ≡ q)
+      by true h = let w : ◌≡◌ {A = ℕ} 0 1 = cc in absurd (omega arith)
+      by false h = (refl, cc)
+
+  pub held_back : then_stay n m p ≡ None → is_contradiction n m ≡ true
+  unfolding pick
+  held_back e = by (is_contradiction n m) e
+    where
+      by : (b : Bool) → pick {A = Option Pin} b None (Some p) ≡ None → b ≡ true
+      by true h = refl
+      by false h = let w : ◌≡◌ {A = ℕ} 0 1 = cc in absurd (omega arith)
 
 module _ (s : List ℕ) {o : Outline} where
   module _ (m : List ℕ) where
@@ -89,7 +108,7 @@ module _ (s : List ℕ) {o : Outline} where
           fine = fault_passed _ _ fine;
         }
 
-    pub pin_through : (a v : ℕ) {pin : Pin} → with_pin a v (pin_gate s m a v) ≡ Ok (o, pin) → Through s m a v o pin
+    pub pin_through : (a v : ℕ) {pin : Option Pin} → with_pin m a v (pin_gate s m a v) ≡ Ok (o, pin) → Through s m a v o pin
     pin_through a v e =
         let (goes, same) = beside_goes _ _ (sym e) in
         record { goes = pin_goes a v goes; asked = sym same }
@@ -132,6 +151,13 @@ module _ {s m : List ℕ} {o : Outline} (lent : Lent s m o) where
     pins_through b e =
         lent_through _
         ∙ all_tested _ o (no_stop _ _ (ap not b), (no_stop _ _ (le-ltb (map_fault o.atoms m) o.atoms (omega (arith, e))), tt))
+
+    -- with it, unless the map is a contradiction
+    pub pins_handed :
+        is_pin o.atoms a v ≡ true → map_fault o.atoms m ≡ o.atoms
+        → with_pin m a v (pin_gate s m a v) ≡ Ok (o, then_stay o.atoms m (pin_of a v))
+    unfolding beside read_then
+    pins_handed b e = ap (λ (g : Result Outline Refusal). with_pin m a v g) (pins_through b e)
 
     -- 11
     pub pins_barred : is_pin o.atoms a v ≡ false → pin_gate s m a v ≡ Err (refusal BadPin 0)

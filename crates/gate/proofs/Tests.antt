@@ -68,19 +68,20 @@ gate_goes s tests {o} e =
     (read ∙ ap Ok same, subst (λ (y : Outline). AllPass (tests y)) same pass)
 
 -- a value that stands beside the sheet is the one that was put there
-module _ {B : Type 0} (x : B) (g : Result Outline Refusal) where
-  pub beside_goes : {y : B} {o : Outline} → ◌≡◌ {A = Result (Outline × B) Refusal} (Ok (o, y)) (beside x g) → (g ≡ Ok o) × (x ≡ y)
+module _ {B : Type 0} (x : Outline → B) (g : Result Outline Refusal) where
+  pub beside_goes : {y : B} {o : Outline} → ◌≡◌ {A = Result (Outline × B) Refusal} (Ok (o, y)) (beside x g) → (g ≡ Ok o) × (x o ≡ y)
   unfolding beside
   beside_goes {y} {o} e =
-      let (o', goes, h) = from_read Err (λ z. Ok (z, x)) g (λ why. not_ok why) (sym e) in
+      let (o', goes, h) = from_read Err (λ z. Ok (z, x z)) g (λ why. not_ok why) (sym e) in
       let same = same_ok h in
-      (goes ∙ ap (λ (z : Outline × B). Ok z.0) same, ap (λ (z : Outline × B). z.1) same)
+      let outline = ap (λ (z : Outline × B). z.0) same in
+      (goes ∙ ap Ok outline, ap x (sym outline) ∙ ap (λ (z : Outline × B). z.1) same)
 
   pub beside_stops : {why : Refusal} → ◌≡◌ {A = Result (Outline × B) Refusal} (Err why) (beside x g) → g ≡ Err why
   unfolding beside read_then
   beside_stops {why} e = by g e
     where
-      by : (z : Result Outline Refusal) → ◌≡◌ {A = Result (Outline × B) Refusal} (Err why) (read_then Err z (λ o. Ok (o, x))) → z ≡ Err why
+      by : (z : Result Outline Refusal) → ◌≡◌ {A = Result (Outline × B) Refusal} (Err why) (read_then Err z (λ o. Ok (o, x o))) → z ≡ Err why
       by (Ok o) h = absurd (not_ok why h)
       by (Err w) h = ap Err (same_err (sym h))
         where

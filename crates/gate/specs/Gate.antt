@@ -1,6 +1,6 @@
 -- "Each returns its number and a place. Number 9 is tested first, then the sheet in reading order, then 10, 11, 13, 12, 14, as far as the
 -- call has such an input." What stops a call, or the sheet on which it goes on.
-use Rattle.std.specs.Prelude.{ℕ, Bool, not, ◌&&◌, List, [], ◌∷◌, length, ltb, eqb, Result, Ok, Err}
+use Rattle.std.specs.Prelude.{ℕ, Bool, not, ◌&&◌, List, [], ◌∷◌, length, ltb, eqb, Option, Some, None, Result, Ok, Err}
 use Rattle.rules.specs.Sum.{pick}
 use Rattle.rules.specs.Map.{inside}
 use Rattle.rules.specs.declared.RuleNo.{RuleNo}
@@ -88,15 +88,19 @@ pin_of a v = record { atom = record { number = a }; inside = eqb v 1 }
 abbrev pub rule_of : ℕ → RuleNo
 rule_of k = record { number = k }
 
--- a value, where a test lets the call go on; and beside the sheet
+-- "A pin on a contradiction answers contradiction again": there no pin is handed on
+abbrev pub then_stay : ℕ → List ℕ → Pin → Option Pin
+then_stay n m p = pick (is_contradiction n m) None (Some p)
+
+-- a value, where a test lets the call go on; and beside the sheet, of which it may be
 unfoldable pub then_give : {A B : Type 0} → B → Result A Refusal → Result B Refusal
 then_give x t = read_then Err t (λ _. Ok x)
 
-unfoldable pub beside : {B : Type 0} → B → Result Outline Refusal → Result (Outline × B) Refusal
-beside x g = read_then Err g (λ o. Ok (o, x))
+unfoldable pub beside : {B : Type 0} → (Outline → B) → Result Outline Refusal → Result (Outline × B) Refusal
+beside x g = read_then Err g (λ o. Ok (o, x o))
 
-abbrev pub with_pin : ℕ → ℕ → Result Outline Refusal → Result (Outline × Pin) Refusal
-with_pin a v g = beside (pin_of a v) g
+abbrev pub with_pin : List ℕ → ℕ → ℕ → Result Outline Refusal → Result (Outline × Option Pin) Refusal
+with_pin m a v g = beside (λ o. then_stay o.atoms m (pin_of a v)) g
 
 abbrev pub with_rule : ℕ → Result Outline Refusal → Result (Outline × RuleNo) Refusal
-with_rule k g = beside (rule_of k) g
+with_rule k g = beside (λ o. rule_of k) g

@@ -6,7 +6,7 @@ ghost use Rattle.std.specs.Prelude.{◌≡◌};
 ghost use Rattle.gate.specs.Gate.{room_gate, test_gate, pin_gate, margin_gate, part_gate, with_pin, with_rule};
 
 use super::Pin;
-use super::steps::{map_bytes, model_bytes, no_contradiction, pin, room, rule};
+use super::steps::{map_bytes, model_bytes, no_contradiction, pin, room, rule, stay_contradiction};
 use numbers::Refusal;
 use rules::RuleNo;
 use sheet::{Outline, read_sheet};
@@ -32,15 +32,21 @@ pub fn test_gate(s: &[u8], m: &[u8]) -> Result<Outline, Refusal>
     Ok(sheet)
 }
 
+// On a contradiction no pin is handed on.
 #[tactic(auto, unfolding(crate::specs::Gate::gate, crate::specs::Gate::tested, crate::specs::Gate::beside, crate::specs::Gate::then_give, numbers::specs::Answer::read_then))]
-pub fn pin_gate(s: &[u8], m: &[u8], atom: usize, side: usize) -> Result<(Outline, Pin), Refusal>
-    ensures { result ≡ with_pin atom side (pin_gate s.now m.now atom side) }
+pub fn pin_gate(
+    s: &[u8],
+    m: &[u8],
+    atom: usize,
+    side: usize,
+) -> Result<(Outline, Option<Pin>), Refusal>
+    ensures { result ≡ with_pin m.now atom side (pin_gate s.now m.now atom side) }
 {
     let sheet = read_sheet(s)?;
     room(sheet.atoms, m)?;
     let pinned = pin(sheet.atoms, atom, side)?;
     map_bytes(sheet.atoms, m)?;
-    Ok((sheet, pinned))
+    Ok((sheet, stay_contradiction(sheet.atoms, m, pinned)))
 }
 
 #[tactic(auto, unfolding(crate::specs::Gate::gate, crate::specs::Gate::tested, crate::specs::Gate::beside, crate::specs::Gate::then_give, numbers::specs::Answer::read_then))]

@@ -1,6 +1,6 @@
 // The steps of the gates: each tests one thing of a sheet of n atoms, or of so many rules.
 ghost use Rattle.std.specs.Prelude.{◌≡◌};
-ghost use Rattle.gate.specs.Gate.{room, pin, rule, no_fault, map_bytes, model_bytes, no_contradiction, then_give, pin_of, rule_of};
+ghost use Rattle.gate.specs.Gate.{room, pin, rule, no_fault, map_bytes, model_bytes, no_contradiction, then_give, then_stay, pin_of, rule_of};
 
 use super::Pin;
 use super::scan::{is_contradiction, map_fault, model_fault};
@@ -77,4 +77,16 @@ pub fn no_contradiction(n: usize, m: &[u8]) -> Result<(), Refusal>
         return Err(Reason::MarginOnContradiction.at(0));
     }
     Ok(())
+}
+
+// "A pin on a contradiction answers contradiction again": there the pin is not handed on.
+#[tactic(auto, unfolding(rules::specs::Sum::pick))]
+pub fn stay_contradiction(n: usize, m: &[u8], pin: Pin) -> Option<Pin>
+    ensures { result ≡ then_stay n m.now pin }
+{
+    let is_stuck = is_contradiction(m, n);
+    if is_stuck {
+        return None;
+    }
+    Some(pin)
 }
