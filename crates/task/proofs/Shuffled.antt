@@ -1,16 +1,18 @@
--- The work of a call comes to the same on every sheet of the same set of rules: their closed maps and their models are the same.
+-- A task comes to the same on every sheet of the same set of rules: their closed maps and their models are the same. What is asked of a
+-- rule is asked of that rule.
 use Prim.Native.Nat.{ℕ}
-use mathlib.Core.Path.{◌≡◌, sym, ◌∙◌, ap, subst}
+use mathlib.Core.Path.{◌≡◌, refl, sym, ◌∙◌, ap, ap₂, subst}
 use mathlib.Core.List.{List}
 use Rattle.std.specs.Prelude.{Option, Some, None}
-use Rattle.rules.specs.Rule.{Sheet, Shuffled}
+use Rattle.rules.specs.Rule.{Rule, Sheet, Shuffled, part_of}
 use Rattle.rules.specs.Stable.{Model, First}
-use Rattle.rules.specs.Map.{Map, Literal, Holding, Over, Whole, side, is, undecided}
+use Rattle.rules.specs.Map.{Map, Literal, Holding, Over, Whole, side, is, margin, undecided}
 use Rattle.rules.specs.Forcing.{Closed, Least, computed}
 use Rattle.rules.specs.Inner.Bytes.{Room}
 use Rattle.rules.proofs.Shuffle.{shuffled_sym, model_shuffled, first_shuffled, computed_same, least_asked, contradiction_asked}
 use Rattle.search.specs.Inner.Search.{FirstIn}
 use Rattle.task.specs.Inner.Closed.{ClosedFor}
+use Rattle.task.specs.Inner.Performs.{Task, opening, pinning, holding, solving, asking_margin, asking_part, Performs, SameAsked}
 use Rattle.task.specs.declared.closed.ClosedMap.{ClosedMap}
 
 module _ {sh sh' : Sheet} (k : Shuffled sh sh') where
@@ -53,9 +55,12 @@ module _ {sh sh' : Sheet} (k : Shuffled sh sh') where
       x
       c
 
-  -- so of every task: opened, closed above a map with literals of its own, and the first model; margin and part are of one row's rule
-  pub performs_shuffled :
-      (m : List ℕ) {ps qs : List Literal} → ps ≡ qs → (x y : Option ClosedMap) (r : Option (List ℕ)) → ClosedFor sh (Holding (computed sh)) x
-      → ClosedFor sh (Over (side sh.atoms m) ps) y → FirstIn sh.atoms (Model sh) r
-      → ClosedFor sh' (Holding (computed sh')) x × ClosedFor sh' (Over (side sh'.atoms m) qs) y × FirstIn sh'.atoms (Model sh') r
-  performs_shuffled m e x y r o c f = (held_shuffled x o, over_shuffled m e y c, first_in r f)
+  -- so of every task, and what is asked of a rule is asked of that rule
+  pub performs_shuffled : (r q : Rule) (t : Task) → SameAsked t r q → Performs sh r t → Performs sh' q t
+  performs_shuffled r q (opening x) same c = held_shuffled x c
+  performs_shuffled r q (pinning m p x) same c = over_shuffled m refl x c
+  performs_shuffled r q (holding m x) same c = over_shuffled m (computed_same k) x c
+  performs_shuffled r q (solving y) same c = first_in y c
+  performs_shuffled r q (asking_margin m z) same c =
+      c ∙ ap₂ (λ (x : Rule) (n : ℕ). margin x (side n m)) same k.atoms
+  performs_shuffled r q (asking_part p i x) same c = c ∙ ap (λ (x : Rule). part_of x p i) same

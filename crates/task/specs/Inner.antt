@@ -1,3 +1,4 @@
 pub mod Copy
 pub mod Hold
 pub mod Closed
+pub mod Performs

@@ -1,6 +1,6 @@
 -- Each call, put together: a gate that stops it is its refusal, and else its work, handed over, is its answer.
 use Prim.Native.Nat.{ℕ, ◌-◌, ◌≤◌}
-use mathlib.Core.Path.{◌≡◌, refl, sym, ◌∙◌, ap, ap₂, subst}
+use mathlib.Core.Path.{◌≡◌, refl, sym, ◌∙◌, ap, subst}
 use mathlib.Core.Bool.{Bool, true, false}
 use mathlib.Core.List.{List, [], ◌∷◌}
 use native.Mathlib.Omega.{arith}
@@ -10,14 +10,13 @@ use lib.IntN.{ℤ}
 use Rattle.std.specs.Prelude.{Option, Some, None, Result, Ok, Err, is_some}
 use Rattle.std.specs.Option.{ForSome}
 use Rattle.rules.specs.Limits.{atoms_most}
-use Rattle.rules.specs.Rule.{Rule, Sheet, nth_rule, no_rule, Within, part_of}
+use Rattle.rules.specs.Rule.{Sheet, nth_rule, no_rule, Within, part_of}
 use Rattle.rules.specs.Stable.{Model, First}
 use Rattle.rules.specs.Map.{Map, Literal, Holding, Over, side, is, signed, margin, Whole}
 use Rattle.rules.specs.Forcing.{Closed, Least, computed}
 use Rattle.rules.specs.Inner.Bytes.{Room, MapBytes}
 use Rattle.rules.specs.declared.RuleNo.{RuleNo}
 use Rattle.rules.proofs.Fits.{Numbered}
-use Rattle.rules.proofs.Shuffle.{computed_same}
 use Rattle.rules.proofs.Testing.{closed_model, clash_no_model}
 use Rattle.numbers.specs.declared.Refusal.{Refusal}
 use Rattle.sheet.specs.Sheet.{sheet_read}
@@ -34,8 +33,9 @@ use Rattle.gate.proofs.Calls.{Lent, room_goes, pin_goes, test_goes, margin_goes,
 use Rattle.search.specs.Inner.Search.{FirstIn}
 use Rattle.task.specs.Inner.Copy.{first_bytes}
 use Rattle.task.specs.Inner.Closed.{ClosedFor}
+use Rattle.task.specs.Inner.Performs.{opening, pinning, holding, solving, asking_margin, asking_part}
 use Rattle.task.specs.declared.closed.ClosedMap.{ClosedMap}
-use Rattle.task.proofs.Shuffled.{held_shuffled, over_shuffled, first_in}
+use Rattle.task.proofs.Shuffled.{performs_shuffled}
 use Rattle.task.proofs.bytes.Laws.{first_byte, first_side, first_written, first_undecided}
 use Rattle.desk.specs.Promise.{Upon, Checks, Parts, Ends, Opens, PinEnds, Pins, SolveEnds, Solves, TestEnds, Tests, Margins, PinAsks, threes}
 use Rattle.desk.specs.Inner.Run.{Stands}
@@ -88,13 +88,19 @@ module _
     (x : Option ClosedMap)
   where
     opened_on : ClosedFor (table_sheet c n count) (Holding (computed (table_sheet c n count))) x → ClosedFor (sheet_meant s o) (Holding (computed (sheet_meant s o))) x
-    opened_on f = held_shuffled on.sheet x f
+    opened_on f = performs_shuffled on.sheet no_rule no_rule (opening x) tt f
 
-    over_on :
-        (m : List ℕ) {ps qs : List Literal} → ps ≡ qs → ClosedFor (table_sheet c n count) (Over (side n m) ps) x
-        → ClosedFor (sheet_meant s o) (Over (side o.atoms m) qs) x
+    pinned_on :
+        (m : List ℕ) (p : Literal) → ClosedFor (table_sheet c n count) (Over (side n m) (p ∷ [])) x
+        → ClosedFor (sheet_meant s o) (Over (side o.atoms m) (p ∷ [])) x
     unfolding sheet_meant
-    over_on m e f = over_shuffled on.sheet m e x f
+    pinned_on m p f = performs_shuffled on.sheet no_rule no_rule (pinning m p x) tt f
+
+    held_on :
+        (m : List ℕ) → ClosedFor (table_sheet c n count) (Over (side n m) (computed (table_sheet c n count))) x
+        → ClosedFor (sheet_meant s o) (Over (side o.atoms m) (computed (sheet_meant s o))) x
+    unfolding sheet_meant
+    held_on m f = performs_shuffled on.sheet no_rule no_rule (holding m x) tt f
 
     -- a map that was found has room for the sheet's atoms
     pub has_room : (Q : Map → Type 0) → ClosedFor (table_sheet c n count) Q x → ForSome x (λ y. Room o.atoms y.map)
@@ -123,7 +129,7 @@ module _
               (subst
               (λ (b : Bool). PinEnds b (sheet_meant s o) m a v m' (Ok i))
               (sym none)
-              (map_ends (sheet_meant s o) (PinAsks (sheet_meant s o) m a v) m m' x i (over_on m refl f) (pin_goes s m a v g).lent.room
+              (map_ends (sheet_meant s o) (PinAsks (sheet_meant s o) m a v) m m' x i (pinned_on m (signed (eqb v 1) a) f) (pin_goes s m a v g).lent.room
               h.handed));
         }
 
@@ -134,7 +140,7 @@ module _
     tests {m} {b} g f e =
         record {
           promise =
-              upon_go s _ _ g (subst (λ (y : Bool). TestEnds sh m (Ok y)) (sym e) (by x (over_on m (computed_same on.sheet) f)));
+              upon_go s _ _ g (subst (λ (y : Bool). TestEnds sh m (Ok y)) (sym e) (by x (held_on m f)));
         }
       where
         sh : Sheet
@@ -184,7 +190,7 @@ module _
     pub solves_model : {model : List ℕ} → r ≡ Some model → Room o.atoms model → m' ≡ first_bytes o.atoms model m → Solves s m m' (Ok ModelFound)
     unfolding sheet_meant
     solves_model {model} e room bytes =
-        let (first, whole) = subst (FirstIn o.atoms (Model (sheet_meant s o))) e (first_in on.sheet r f) in
+        let (first, whole) = subst (FirstIn o.atoms (Model (sheet_meant s o))) e (performs_shuffled on.sheet no_rule no_rule (solving r) tt f) in
         record {
           promise =
               upon_go s _ _ g
@@ -201,7 +207,7 @@ module _
     pub solves_none : r ≡ None → m' ≡ threes o.atoms m → Solves s m m' (Ok NoneFound)
     unfolding sheet_meant
     solves_none e bytes =
-        record { promise = upon_go s _ _ g (subst (FirstIn o.atoms (Model (sheet_meant s o))) e (first_in on.sheet r f), bytes) }
+        record { promise = upon_go s _ _ g (subst (FirstIn o.atoms (Model (sheet_meant s o))) e (performs_shuffled on.sheet no_rule no_rule (solving r) tt f), bytes) }
 
 -- a rule that was let through
 pub asked_place :
@@ -223,22 +229,28 @@ pub margins :
     → Stands s o wanted c n count d k at → wanted ≡ number - 1 → margin_gate s m number ≡ Ok o → z ≡ margin (row_rule d at) (side k m)
     → Margins s m number (Ok z)
 unfolding sheet_meant
-margins {s} {m} {o} {number} on w g e =
+margins {s} {m} {o} {number} {d = d} {at = at} {z = z} on w g e =
     record {
       promise =
           upon_go s _ _ g
           (ap (λ (y : ℤ). Ok y)
-          (e ∙ ap₂ (λ (r : Rule) (j : ℕ). margin r (side j m)) (asked_same on w (margin_goes s m number g).0) on.row_atoms));
+          (performs_shuffled on.sheet (row_rule d at) (nth_rule (sheet_meant s o) number) (asking_margin m z)
+          (asked_same on w (margin_goes s m number g).0)
+          (e ∙ ap (λ (j : ℕ). margin (row_rule d at) (side j m)) (on.row_atoms ∙ sym on.atoms))));
     }
 
 pub parts :
     {s : List ℕ} {o : Outline} {number wanted : ℕ} {c : List ℕ} {n count : ℕ} {d : List ℕ} {k at p i : ℕ} {x : Option ℕ}
     → Stands s o wanted c n count d k at → wanted ≡ number - 1 → part_gate s number ≡ Ok o → x ≡ part_of (row_rule d at) p i → Parts s number p i (Ok x)
-parts {s} {o} {number} {p = p} {i = i} on w g e =
+parts {s} {o} {number} {d = d} {at = at} {p = p} {i = i} {x = x} on w g e =
     record {
       promise =
           upon_go s _ _ g
-          (ap (λ (y : Option ℕ). Ok y) (e ∙ ap (λ (r : Rule). part_of r p i) (asked_same on w (part_goes s number g).0)));
+          (ap
+          (λ (y : Option ℕ). Ok y)
+          (performs_shuffled on.sheet (row_rule d at) (nth_rule (sheet_meant s o) number) (asking_part p i x)
+          (asked_same on w (part_goes s number g).0)
+          e));
     }
 
 -- a pin on a contradiction
