@@ -9,7 +9,7 @@ ghost use Rattle.solve.specs.Input.{InBuffer};
 use answer::answer;
 use sheet::BYTES_MOST;
 use std::io;
-use std::io::Read;
+use std::io::{Read, Write};
 
 // One byte more than a sheet may have, so that a longer one is passed on as longer.
 const MOST: usize = BYTES_MOST + 1;
@@ -33,5 +33,7 @@ fn read_all(reader: &mut impl Read, buffer: &mut [u8]) -> io::Result<usize>
 fn main(rt: HostRuntime) -> io::Result<()> {
     let mut buffer = [0u8; MOST];
     let len = read_all(&mut rt.stdin(), &mut buffer)?;
-    print!(rt; "{}", answer(&buffer[..len]))
+    let line = answer(&buffer[..len]);
+    // in one write: `print!` hands a line of more than 1,024 bytes on in pieces, between which others may write
+    io::writer(&rt).write_all(line.as_bytes())
 }
