@@ -13,6 +13,7 @@ use lib.Seq.{length-take-le, get_or-take}
 use borrow.Author.Tests.{eq-eqb, ltb-true, ltb-false}
 use Rattle.std.proofs.lemmas.List.Sums.{fails_before_first, passes_at_first}
 use Rattle.std.specs.List.{position_or_len}
+use Rattle.std.specs.Option.{option_eq}
 use Rattle.rules.proofs.Tests.{T_eq, true_T}
 use Rattle.rules.specs.Sum.{counted, tally}
 use Rattle.rules.specs.Rule.{Rule, Within}
@@ -50,6 +51,11 @@ after_same Good n Q Q' m m' m'' (Ok q) s t = step_joined Good n Q Q' m m' m'' fa
 pub none_with : {v n : ℕ} (m : List ℕ) (r : Option ℕ) → is_some r ≡ false → FirstWith v n m r → NoneWith v n m
 none_with m None e h = h
 none_with m (Some i) e h = absurd (true≢false e)
+
+-- nothing is what equals nothing
+pub equals_none : (r : Option ℕ) → true ≡ option_eq eqb r None → is_some r ≡ false
+equals_none None e = refl
+equals_none (Some i) e = absurd (true≢false e)
 
 -- where no byte is v no atom has that side
 no_byte : {v n : ℕ} (m : List ℕ) → NoneWith v n m → {a : ℕ} → Within n a → side n m a ≡ v → ⊥

@@ -61,7 +61,8 @@ fn back_round(t: &Table, m: &mut [u8]) -> Result<bool, Clash>
         return Ok(false);
     }
     let first_open = lowest(m, t.atoms);
-    let is_whole = first_open.is_none();
+    // by ==, so that edit rule_two_left_out exchanges the value alone
+    let is_whole = first_open == None;
     if is_whole {
         return Ok(false);
     }

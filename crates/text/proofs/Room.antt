@@ -8,6 +8,8 @@ use lib.ListN.{length}
 use lib.Dec.{lit≤}
 use Rattle.std.specs.Prelude.{decimal}
 use Rattle.std.proofs.lemmas.Fmt.{decimal_by_steps}
+use Rattle.std.proofs.lemmas.Str.{encode_ascii}
+use lib.Utf8.{encode}
 use Rattle.rules.specs.Limits.{atoms_most}
 use Rattle.text.specs.Line.{spaced, spaced_all, in_atoms, model_word, digits, digits_in}
 use Rattle.text.specs.Inner.Put.{line_most}
@@ -34,3 +36,7 @@ unfolding atoms_most spaced digits digits_in
 atoms_room m i h =
     let most : length model_word + atoms_most * length (spaced atoms_most) + 21 ≤ line_most = lit≤ tt in
     omega (arith, most, all_fit m i atoms_most h, mul-le-mul_right {m = i} {n = atoms_most} (length (spaced atoms_most)) h)
+
+-- what ends a line takes one byte
+pub one_byte : (c : ℕ) → c < 128 → length (encode c) ≡ 1
+one_byte c h = ap length (encode_ascii c h)

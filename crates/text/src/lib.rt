@@ -1,10 +1,9 @@
 // The text of the program's one line of output.
 #![tactic(auto)]
 
-ghost use Rattle.std.specs.Prelude.{min, ◌≡◌, ◌++◌};
+ghost use Rattle.std.specs.Prelude.{min, ◌≡◌};
 ghost use Rattle.rules.specs.Limits.{atoms_most};
-ghost use Rattle.text.specs.Line.{feed, model_line, none_line, refused_line, Spells};
-ghost use Rattle.text.specs.Inner.Put.{Fits};
+ghost use Rattle.text.specs.Line.{model_line, none_line, refused_line, Spells};
 
 use arrayvec::ArrayString;
 use rules::Atom;
@@ -19,29 +18,20 @@ pub const SIZE: usize = 4096;
 // A line is a text of its own, which lies in place.
 pub type Line = ArrayString<SIZE>;
 
-// A line ends in a line feed.
-fn ended(text: Line) -> Line
-    requires { Fits text feed }
-    ensures { result.bytes ≡ text.bytes ++ feed }
-{
-    let mut line = text;
-    line.push('\n');
-    line
-}
-
 // The line of a model: the atoms of 1 to n whose byte in the map is 1, atom a at index a - 1. A sheet has no more atoms than
 // Atom::LAST, so a larger n counts as that; the map may have fewer bytes than n, so the index goes by n.
 pub fn model_line(map: &[u8], n: usize) -> Line
     ensures { Spells result (model_line (min n atoms_most) map.now) }
 {
-    let mut line = Line::new();
-    line.push_str("MODEL");
+    let mut names = Line::new();
+    names.push_str("MODEL");
     for i in 0..n.min(Atom::LAST) {
         if is_in(map, i) {
-            put_spaced(&mut line, i + 1);
+            put_spaced(&mut names, i + 1);
         }
     }
-    ended(line)
+    names.push('\n');
+    names
 }
 
 // The line that says that there is no model.
@@ -51,7 +41,8 @@ pub fn none_line() -> Line
 {
     let mut line = Line::new();
     line.push_str("NONE");
-    ended(line)
+    line.push('\n');
+    line
 }
 
 // The line of a refusal: two plain numbers, of which nothing is asked, where a `Refusal` would let in only the sixteen reasons.
@@ -62,5 +53,6 @@ pub fn refused_line(number: usize, place: usize) -> Line
     line.push_str("REFUSED");
     put_spaced(&mut line, number);
     put_spaced(&mut line, place);
-    ended(line)
+    line.push('\n');
+    line
 }

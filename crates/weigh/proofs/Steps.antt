@@ -76,6 +76,11 @@ module _ (Good : Map → Type 0) where
     pub clash_any : (Q Q' : Map → Type 0) (m m' : List ℕ) {e : Clash} → Step Good n Q m m' (Err e) → Step Good n Q' m m' (Err e)
     clash_any Q Q' m m' s = record { kept = s.kept; went = s.went }
 
+    -- nor is it one that what is put afterwards takes away
+    pub clash_on :
+        (Q Q' : Map → Type 0) (m m' m'' : List ℕ) {e : Clash} → Step Good n Q m m' (Err e) → Kept n m' m'' → Step Good n Q' m m'' (Err e)
+    clash_on Q Q' m m' m'' s k = record { kept = kept_trans n m m' m'' s.kept k; went = s.went }
+
     grown : (m m' m'' : List ℕ) → Grown Good n m m' → Grown Good n m' m'' → Grown Good n m m''
     grown m m' m'' g h = record { forces = forces_trans g.forces h.forces; fewer = omega (arith, g.fewer, h.fewer) }
 

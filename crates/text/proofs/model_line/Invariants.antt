@@ -4,4 +4,4 @@ use Rattle.text.specs.Line.{model_word, spaced_all, in_atoms}
 use Rattle.text.proofs.model_line.Given as goal
 
 abbrev pub invariant-loop-i : goal.invariant-loop-i
-invariant-loop-i l = l.line.bytes ≡ model_word ++ spaced_all (in_atoms l.i l.map)
+invariant-loop-i l = l.names.bytes ≡ model_word ++ spaced_all (in_atoms l.i l.map)

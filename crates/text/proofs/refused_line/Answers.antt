@@ -1,7 +1,7 @@
 -- `refused_line`: the word and two numbers fit, and the line feed after them.
 use Rattle.std.proofs.Common.{◌++◌, ◌∙◌, ap, length, length-append, arith}
 use Rattle.text.specs.Line.{feed, refused_word, refused_line, spaced}
-use Rattle.text.proofs.Room.{spaced_short}
+use Rattle.text.proofs.Room.{spaced_short, one_byte}
 use Rattle.text.proofs.refused_line.Goals as goal
 
 pub put_spaced-requires : goal.put_spaced-requires
@@ -18,10 +18,11 @@ put_spaced-requires-2 c =
       spaced_short c.args.place (omega arith),
     )
 
-pub ended-requires : goal.ended-requires
-ended-requires c =
+pub push-requires : goal.push-requires
+push-requires c =
     omega (
       arith,
+      one_byte,
       ap length c.new-line.ensures,
       ap length c.put_spaced.ensures,
       ap length c.put_spaced-2.ensures,
@@ -34,7 +35,7 @@ ended-requires c =
 pub returns : goal.returns
 unfolding refused_line
 returns c =
-    c.ended.ensures
+    c.push.ensures.ascii (omega arith)
     ∙ ap (λ t. t ++ feed)
     (c.put_spaced-2.ensures ∙ ap (λ t. t ++ spaced c.args.place)
     (c.put_spaced.ensures ∙ ap (λ t. t ++ spaced c.args.number) (c.push_str.ensures.bytes ∙ ap (λ t. t ++ refused_word) c.new-line.ensures)))

@@ -4,7 +4,7 @@ use Prim.Native.Nat.{ℕ, ◌≤◌}
 use mathlib.Core.Path.{sym, subst}
 use Rattle.rules.specs.Limits.{atoms_most}
 use Rattle.weigh.proofs.Bytes.{blank_room, blank_side}
-use Rattle.forcing.proofs.Closings.{none_with, backed, backed_idle, backed_whole, backed_more}
+use Rattle.forcing.proofs.Closings.{none_with, equals_none, backed, backed_idle, backed_whole, backed_more}
 use Rattle.forcing.proofs.rounds.back_round.Goals as goal
 
 pub returns-then-is_none : goal.returns-then-is_none
@@ -16,7 +16,7 @@ pub returns-then-is_whole : goal.returns-then-is_whole
 returns-then-is_whole c =
     let t = c.args.t.now in
     backed_whole t.code.now t.atoms t.rules t.laid c.args.m.now c.requires
-    (none_with c.args.m.now c.lowest-first_open.result c.if-is_whole.ensures c.lowest-first_open.ensures)
+    (none_with c.args.m.now c.lowest-first_open.result (equals_none _ c.if-is_whole.ensures) c.lowest-first_open.ensures)
 
 pub count_all-requires-clause-space : goal.count_all-requires-clause-space
 unfolding atoms_most
