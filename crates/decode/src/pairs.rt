@@ -25,7 +25,7 @@ pub(crate) struct Reached {
 
 // One atom with its weight.
 #[tactic(auto, using(crate::proofs::pairs::Laws::pair_put), unfolding(table::specs::Inner::Words::pair_width))]
-fn write_pair(code: &mut [u32], j: usize, atom: usize, weight: usize)
+pub(crate) fn write_pair(code: &mut [u32], j: usize, atom: usize, weight: usize)
     requires { PairFits code.old j atom weight }
     ensures { PairsCopied code.old j (weighted atom weight ∷ []) code.new (j + 1) }
 {
@@ -34,7 +34,7 @@ fn write_pair(code: &mut [u32], j: usize, atom: usize, weight: usize)
 }
 
 // So many atoms, each with weight 1.
-pub(crate) fn copy_atoms(s: &[u8], count: usize, code: &mut [u32], from: Reached) -> Reached
+fn copy_atoms(s: &[u8], count: usize, code: &mut [u32], from: Reached) -> Reached
     requires { PairsFit code.old from.pair (ones (numbers_from count s.now from.next)) }
     ensures { ListCopied code.old from.pair (numbers_from count s.now from.next) (numbers_past count s.now from.next) from.mark code.new result }
 {

@@ -7,7 +7,7 @@ ghost use Rattle.decode.specs.Inner.Pairs.{PairsFit, ListCopied};
 ghost use Rattle.decode.specs.Inner.Rows.{BodyAsks, BodyPut, RestAsks, RestPut, RowAsks, RuleAsks, RulePut, TableRoom, with_row, with_end, first_pair};
 ghost use Rattle.decode.specs.Inner.Decode.{Decodable, WritesRules};
 
-use super::pairs::{Reached, copy_atoms, copy_list, copy_weights};
+use super::pairs::{Reached, copy_list, copy_weights, write_pair};
 use super::words::set_word;
 use numbers::{Span, take_number};
 use repeats::{Kept, carried, mixed};
@@ -31,14 +31,23 @@ pub(crate) struct Rows {
     pub next: usize,
 }
 
-// The heads of a rule of this kind: of a choice a list, of every other kind one atom.
+// The heads of a rule of this kind: of a choice a list, of every other kind one atom, which is written apart from the lists, so that edit
+// atoms_weigh_two is of these alone.
 fn write_heads(s: &[u8], kind: Kind, code: &mut [u32], from: Reached) -> Reached
     requires { PairsFit code.old from.pair (ones (heads_taken s.now kind from.next)) }
     ensures { ListCopied code.old from.pair (heads_taken s.now kind from.next) (heads_past s.now kind from.next) from.mark code.new result }
 {
     match kind {
         Kind::Choice => copy_list(s, code, from),
-        _ => copy_atoms(s, 1, code, from),
+        _ => {
+            let head = take_number(s, from.next);
+            write_pair(code, from.pair, head.value, 1);
+            Reached {
+                pair: from.pair + 1,
+                next: head.next,
+                mark: mixed(carried(from.mark), 0, head.value),
+            }
+        }
     }
 }
 

@@ -13,13 +13,12 @@ use Rattle.rules.specs.Rule.{Rule, one, ones, kind_number, kind_of}
 use Rattle.rules.specs.declared.kind.Kind.{Kind}
 use Rattle.rules.specs.declared.kind.Kind.TheVariants.{Basic as basic, Constraint as constraint, Choice as choice, Weight as weight}
 use Rattle.numbers.specs.Number.{taken_at}
-use Rattle.numbers.specs.Lists.{numbers_from}
 use Rattle.numbers.specs.declared.Span.{Span}
 use Rattle.numbers.proofs.number.Taken.{taken_most}
 use Rattle.sheet.specs.Shown.Encode.{rules_size}
 use Rattle.table.specs.Inner.Words.{row_width, pair_width}
 use Rattle.repeats.specs.Inner.Marks.{mixed, carried, mixed_all, atoms_mark, body_mark, rule_mark}
-use Rattle.decode.specs.Inner.Taken.{numbers_past, list_taken, list_past, Body, body_length, rest_taken, has_bound, weighs, kind_taken, heads_taken, heads_past, bound_taken, need_taken, rule_of, rule_bound, rule_taken, rule_past}
+use Rattle.decode.specs.Inner.Taken.{list_taken, list_past, Body, body_length, rest_taken, has_bound, weighs, kind_taken, heads_taken, heads_past, bound_taken, need_taken, rule_of, rule_bound, rule_taken, rule_past}
 use Rattle.decode.specs.Inner.Pairs.{with_pairs, PairsFit, PairsCopied, ListCopied}
 use Rattle.decode.specs.Inner.Rows.{positives_from, negatives_from, end_from, with_body, with_row, with_rule, BodyPut, RowAsks, RestAsks, RestPut, RuleAsks, RulePut}
 use Rattle.decode.specs.declared.pairs.Reached.{Reached}
@@ -53,19 +52,20 @@ module _ (s : List ℕ) (at : ℕ) where
   unfolding heads_past pick
   list_past_law kind e = ap (λ (k : Kind). heads_past s k at) e
 
-  pub one_head : (kind : Kind) → (kind ≡ choice → ⊥) → heads_taken s kind at ≡ numbers_from 1 s at
-  unfolding heads_taken pick numbers_from
-  one_head basic other = refl
-  one_head constraint other = refl
-  one_head choice other = absurd (other refl)
-  one_head weight other = refl
+  module _ (head : Span) (e : head ≡ taken_at s at) where
+    pub one_head : (kind : Kind) → (kind ≡ choice → ⊥) → heads_taken s kind at ≡ head.value ∷ []
+    unfolding heads_taken pick
+    one_head basic other = ap (λ (p : Span). p.value ∷ []) (sym e)
+    one_head constraint other = ap (λ (p : Span). p.value ∷ []) (sym e)
+    one_head choice other = absurd (other refl)
+    one_head weight other = ap (λ (p : Span). p.value ∷ []) (sym e)
 
-  pub one_past : (kind : Kind) → (kind ≡ choice → ⊥) → heads_past s kind at ≡ numbers_past 1 s at
-  unfolding heads_past pick numbers_past
-  one_past basic other = refl
-  one_past constraint other = refl
-  one_past choice other = absurd (other refl)
-  one_past weight other = refl
+    pub one_past : (kind : Kind) → (kind ≡ choice → ⊥) → head.next ≡ heads_past s kind at
+    unfolding heads_past pick
+    one_past basic other = ap (λ (p : Span). p.next) e
+    one_past constraint other = ap (λ (p : Span). p.next) e
+    one_past choice other = absurd (other refl)
+    one_past weight other = ap (λ (p : Span). p.next) e
 
 -- the weights of a kind are told by its number too
 weighs_number : (kind : Kind) → weighs kind ≡ eqb (kind_number kind) (kind_number weight)
