@@ -39,10 +39,10 @@ pub fn model_line(map: &[u8], n: usize) -> Line
 pub fn none_line() -> Line
     ensures { Spells result none_line }
 {
-    let mut line = Line::new();
-    line.push_str("NONE");
-    line.push('\n');
-    line
+    let mut word = Line::new();
+    word.push_str("NONE");
+    word.push('\n');
+    word
 }
 
 // The line of a refusal: two plain numbers, of which nothing is asked, where a `Refusal` would let in only the sixteen reasons.
