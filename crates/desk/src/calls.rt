@@ -7,7 +7,7 @@ ghost use Rattle.desk.specs.Promise.{Checks, Parts, Opens, Pins, Solves, Tests, 
 use super::hand::{hand, write_threes};
 use super::run::on_table;
 use super::{Counts, Solved};
-use gate::{margin_gate, part_gate, pin_gate, room_gate, test_gate};
+use gate::{margin_gate, part_gate, pin_or_stay_gate, room_gate, test_gate};
 use numbers::Refusal;
 use rules::RuleNo;
 use sheet::read_sheet;
@@ -49,7 +49,7 @@ pub fn open(s: &[u8], map: &mut [u8]) -> Result<Option<usize>, Refusal>
 pub fn pin(s: &[u8], map: &mut [u8], atom: usize, side: usize) -> Result<Option<usize>, Refusal>
     ensures { Pins s.now map.old atom side map.new result }
 {
-    let (sheet, asked) = pin_gate(s, map, atom, side)?;
+    let (sheet, asked) = pin_or_stay_gate(s, map, atom, side)?;
     let Some(put) = asked else {
         return Ok(None);
     };

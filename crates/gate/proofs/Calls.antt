@@ -21,7 +21,7 @@ use Rattle.sheet.specs.Sheet.{sheet_read}
 use Rattle.sheet.specs.declared.Outline.{Outline}
 use Rattle.gate.specs.Scan.{map_fault, is_contradiction}
 use Rattle.gate.specs.declared.Pin.{Pin}
-use Rattle.gate.specs.Gate.{Test, stop_if, room, is_pin, no_fault, gate, tested, beside, room_gate, open_gate, solve_gate, test_gate, pin_gate, margin_gate, part_gate, pin_of, rule_of, then_stay, with_pin, with_rule}
+use Rattle.gate.specs.Gate.{Test, stop_if, room, is_pin, no_fault, gate, tested, beside, room_gate, open_gate, solve_gate, test_gate, pin_gate, margin_gate, part_gate, pin_of, rule_of, then_stay, with_pin, with_stay, with_rule}
 use Rattle.gate.proofs.Tests.{beside_goes, not_stopped, no_stop, stops, gate_goes, sheet_passes, test_passes, test_stops, all_tested}
 use Rattle.gate.proofs.scan.Maps.{model_fine}
 
@@ -37,8 +37,13 @@ pub record PinLent (s m : List ℕ) (a v : ℕ) (o : Outline) : Type 0 where
   pub side : Within 2 v
   pub fine : o.atoms ≤ map_fault o.atoms m
 
--- a pin that was let through: it is the one that was asked for, and on a contradiction there is none
-pub record Through (s m : List ℕ) (a v : ℕ) (o : Outline) (pin : Option Pin) : Type 0 where
+-- a pin that was let through: it is the one that was asked for
+pub record Through (s m : List ℕ) (a v : ℕ) (o : Outline) (pin : Pin) : Type 0 where
+  pub goes : PinLent s m a v o
+  pub asked : pin ≡ pin_of a v
+
+-- and where on a contradiction there is none
+pub record StayThrough (s m : List ℕ) (a v : ℕ) (o : Outline) (pin : Option Pin) : Type 0 where
   pub goes : PinLent s m a v o
   pub asked : pin ≡ then_stay o.atoms m (pin_of a v)
 
@@ -108,8 +113,13 @@ module _ (s : List ℕ) {o : Outline} where
           fine = fault_passed _ _ fine;
         }
 
-    pub pin_through : (a v : ℕ) {pin : Option Pin} → with_pin m a v (pin_gate s m a v) ≡ Ok (o, pin) → Through s m a v o pin
+    pub pin_through : (a v : ℕ) {pin : Pin} → with_pin a v (pin_gate s m a v) ≡ Ok (o, pin) → Through s m a v o pin
     pin_through a v e =
+        let (goes, same) = beside_goes _ _ (sym e) in
+        record { goes = pin_goes a v goes; asked = sym same }
+
+    pub stay_through : (a v : ℕ) {pin : Option Pin} → with_stay m a v (pin_gate s m a v) ≡ Ok (o, pin) → StayThrough s m a v o pin
+    stay_through a v e =
         let (goes, same) = beside_goes _ _ (sym e) in
         record { goes = pin_goes a v goes; asked = sym same }
 
@@ -155,9 +165,9 @@ module _ {s m : List ℕ} {o : Outline} (lent : Lent s m o) where
     -- with it, unless the map is a contradiction
     pub pins_handed :
         is_pin o.atoms a v ≡ true → map_fault o.atoms m ≡ o.atoms
-        → with_pin m a v (pin_gate s m a v) ≡ Ok (o, then_stay o.atoms m (pin_of a v))
+        → with_stay m a v (pin_gate s m a v) ≡ Ok (o, then_stay o.atoms m (pin_of a v))
     unfolding beside read_then
-    pins_handed b e = ap (λ (g : Result Outline Refusal). with_pin m a v g) (pins_through b e)
+    pins_handed b e = ap (λ (g : Result Outline Refusal). with_stay m a v g) (pins_through b e)
 
     -- 11
     pub pins_barred : is_pin o.atoms a v ≡ false → pin_gate s m a v ≡ Err (refusal BadPin 0)

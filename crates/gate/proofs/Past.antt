@@ -11,7 +11,7 @@ use Rattle.numbers.specs.Answer.{refusal, read_then}
 use Rattle.numbers.specs.declared.Refusal.{Refusal}
 use Rattle.numbers.specs.declared.reason.Reason.TheVariants.{MarginOnContradiction}
 use Rattle.sheet.specs.declared.Outline.{Outline}
-use Rattle.gate.specs.Gate.{Test, stop_if, pin, rule, no_fault, tested, test_gate, pin_gate, margin_gate, pin_of, beside, with_pin}
+use Rattle.gate.specs.Gate.{Test, stop_if, pin, rule, no_fault, tested, test_gate, pin_gate, margin_gate, pin_of, beside, with_stay}
 use Rattle.gate.proofs.Calls.{Lent, lent_through}
 use Rattle.gate.proofs.scan.Maps.{map_same, model_same, is_contradiction_same}
 
@@ -36,11 +36,11 @@ module _ (o : Outline) (m m' : List ℕ) (same : (i : ℕ) → i < o.atoms → g
       ∙ sym (lent_through lent' _)
 
   -- and with the pin that is handed on
-  pub with_pin_same : (a v : ℕ) → with_pin m a v (pin_gate s m a v) ≡ with_pin m' a v (pin_gate s m' a v)
-  with_pin_same a v =
-      ap (λ (g : Result Outline Refusal). with_pin m a v g) (lent_through lent _)
+  pub with_stay_same : (a v : ℕ) → with_stay m a v (pin_gate s m a v) ≡ with_stay m' a v (pin_gate s m' a v)
+  with_stay_same a v =
+      ap (λ (g : Result Outline Refusal). with_stay m a v g) (lent_through lent _)
       ∙ beside_same _ _ o (ap (λ (b : Bool). pick b None (Some (pin_of a v))) (is_contradiction_same o.atoms m m' same)) _
-      ∙ ap (λ (g : Result Outline Refusal). with_pin m' a v g) (sym (lent_through lent _) ∙ pin_gate_same a v)
+      ∙ ap (λ (g : Result Outline Refusal). with_stay m' a v g) (sym (lent_through lent _) ∙ pin_gate_same a v)
 
   pub test_gate_same : test_gate s m ≡ test_gate s m'
   test_gate_same =

@@ -99,8 +99,11 @@ then_give x t = read_then Err t (λ _. Ok x)
 unfoldable pub beside : {B : Type 0} → (Outline → B) → Result Outline Refusal → Result (Outline × B) Refusal
 beside x g = read_then Err g (λ o. Ok (o, x o))
 
-abbrev pub with_pin : List ℕ → ℕ → ℕ → Result Outline Refusal → Result (Outline × Option Pin) Refusal
-with_pin m a v g = beside (λ o. then_stay o.atoms m (pin_of a v)) g
+abbrev pub with_pin : ℕ → ℕ → Result Outline Refusal → Result (Outline × Pin) Refusal
+with_pin a v g = beside (λ o. pin_of a v) g
+
+abbrev pub with_stay : List ℕ → ℕ → ℕ → Result Outline Refusal → Result (Outline × Option Pin) Refusal
+with_stay m a v g = beside (λ o. then_stay o.atoms m (pin_of a v)) g
 
 abbrev pub with_rule : ℕ → Result Outline Refusal → Result (Outline × RuleNo) Refusal
 with_rule k g = beside (λ o. rule_of k) g

@@ -6,7 +6,7 @@ pub mod gates;
 pub mod scan;
 pub mod steps;
 
-pub use gates::{margin_gate, part_gate, pin_gate, room_gate, test_gate};
+pub use gates::{margin_gate, part_gate, pin_gate, pin_or_stay_gate, room_gate, test_gate};
 use rules::Atom;
 pub use scan::is_contradiction;
 pub use steps::{model_bytes, room};
