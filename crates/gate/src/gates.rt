@@ -32,7 +32,8 @@ pub fn test_gate(s: &[u8], m: &[u8]) -> Result<Outline, Refusal>
     Ok(sheet)
 }
 
-// The pin is handed on whatever the map holds, a contradiction too. No call of desk's goes by it, so it is written out beside the next.
+// The pin is handed on whatever the map holds, a contradiction too. No call of desk's goes by it. By way of the next gate, which has no pin there,
+// `pin` would be asked twice, and edit pin_gate_twelve_before_eleven be refused for its form alone.
 #[tactic(auto, unfolding(crate::specs::Gate::gate, crate::specs::Gate::tested, crate::specs::Gate::beside, crate::specs::Gate::then_give, numbers::specs::Answer::read_then))]
 pub fn pin_gate(s: &[u8], m: &[u8], atom: usize, side: usize) -> Result<(Outline, Pin), Refusal>
     ensures { result ≡ with_pin atom side (pin_gate s.now m.now atom side) }
